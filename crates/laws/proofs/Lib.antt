@@ -1,0 +1,19 @@
+-- General laws, each stated once. The other crates' proofs cite them.
+pub mod Tab
+pub mod Parts
+pub mod Joined
+pub mod Grid
+pub mod Planes
+pub mod Sums
+pub mod Products
+pub mod Max
+pub mod Blocks
+pub mod Int
+pub mod Whole
+pub mod Signed
+pub mod Times
+pub mod Thirds
+pub mod FloatTests
+pub mod InPlace
+pub mod Stepped
+pub mod MaxAt
