@@ -1,0 +1,116 @@
+-- `arch_hsv::bgr_to_hsv_row` meets its contract. The invariant: the pixels before x are stored. Assumes nothing.
+use mathlib.Core.Path.{_≡_, refl, ap, _∙_}
+use Prim.Native.Nat.{_-_, _≤_}
+use native.Mathlib.Omega.{arith}
+use lib.ListN.{length, length-set}
+use Rattle.arch_hsv.specs.Rows.{rowStored}
+use Rattle.arch_hsv.proofs.Stored.{stored-more}
+use Rattle.arch_hsv.proofs.bgr_to_hsv_row.Statement.{statement}
+use Rattle.arch_hsv.proofs.bgr_to_hsv_row.Tie as tie
+
+abbrev Inv-loop : tie.InvT-loop
+Inv-loop out₀ row first n w x₀ out x = (x ≤ w) × ((length out ≡ length out₀) × (out ≡ rowStored out₀ row first n x))
+
+abbrev μ-loop : tie.MeasureT-loop
+μ-loop out₀ row first n w x₀ out x = w - x
+
+loop-holds : tie.Need-loop-holds Inv-loop μ-loop
+unfolding rowStored
+loop-holds c = (omega arith, (refl, refl))
+
+mul-i : tie.Need-mul-i Inv-loop μ-loop
+mul-i c = omega arith
+
+shared-slice-read-bgr-to-hsv-pixel : tie.Need-shared-slice-read-bgr-to-hsv-pixel Inv-loop μ-loop
+shared-slice-read-bgr-to-hsv-pixel c = omega arith
+
+add-bgr-to-hsv-pixel : tie.Need-add-bgr-to-hsv-pixel Inv-loop μ-loop
+add-bgr-to-hsv-pixel c = omega arith
+
+shared-slice-read-bgr-to-hsv-pixel-2 :
+    tie.Need-shared-slice-read-bgr-to-hsv-pixel-2 Inv-loop μ-loop
+shared-slice-read-bgr-to-hsv-pixel-2 c = omega arith
+
+add-bgr-to-hsv-pixel-2 : tie.Need-add-bgr-to-hsv-pixel-2 Inv-loop μ-loop
+add-bgr-to-hsv-pixel-2 c = omega arith
+
+shared-slice-read-bgr-to-hsv-pixel-3 :
+    tie.Need-shared-slice-read-bgr-to-hsv-pixel-3 Inv-loop μ-loop
+shared-slice-read-bgr-to-hsv-pixel-3 c = omega arith
+
+bgr-to-hsv-pixel-requires : tie.Need-bgr-to-hsv-pixel-requires Inv-loop μ-loop
+bgr-to-hsv-pixel-requires c κs = tt
+
+add-a : tie.Need-add-a Inv-loop μ-loop
+add-a c = omega arith
+
+slice-write-out : tie.Need-slice-write-out Inv-loop μ-loop
+slice-write-out c = omega arith
+
+add-out : tie.Need-add-out Inv-loop μ-loop
+add-out c = omega arith
+
+slice-write-out-2 : tie.Need-slice-write-out-2 Inv-loop μ-loop
+slice-write-out-2 c = simp length-set (omega arith)
+
+add-out-2 : tie.Need-add-out-2 Inv-loop μ-loop
+add-out-2 c = omega arith
+
+add-out-3 : tie.Need-add-out-3 Inv-loop μ-loop
+add-out-3 c = omega arith
+
+slice-write-out-3 : tie.Need-slice-write-out-3 Inv-loop μ-loop
+slice-write-out-3 c = simp length-set (omega arith)
+
+add-x : tie.Need-add-x Inv-loop μ-loop
+add-x c = omega arith
+
+loop-less : tie.Need-loop-less Inv-loop μ-loop
+loop-less c = omega arith
+
+loop-again : tie.Need-loop-again Inv-loop μ-loop
+loop-again c =
+    let t = c .before .before .before .before .before in (
+      omega arith,
+      (
+        simp length-set (t .loop .inv .1 .0),
+        stored-more _ _ _ _ _ _ _ (t .loop .inv .1 .1) (c .bgr-to-hsv-pixel .ensures),
+      ),
+    )
+
+same-length : tie.Need-same-length Inv-loop μ-loop
+same-length c = omega arith
+
+returns : tie.Need-returns Inv-loop μ-loop
+returns c =
+    let t = c .before in
+    let a = t .before .before .before .args in
+    let e : t .loop .x ≡ a .w = omega arith in
+    t .loop .inv .1 .1 ∙ ap (rowStored (a .out .now) (a .row .now) (a .first) (a .n)) e
+
+pub bgr-to-hsv-row-spec : {M : Type 1} → statement M
+bgr-to-hsv-row-spec =
+    tie.close
+    (tie.spec
+    Inv-loop
+    μ-loop
+    loop-holds
+    mul-i
+    shared-slice-read-bgr-to-hsv-pixel
+    add-bgr-to-hsv-pixel
+    shared-slice-read-bgr-to-hsv-pixel-2
+    add-bgr-to-hsv-pixel-2
+    shared-slice-read-bgr-to-hsv-pixel-3
+    bgr-to-hsv-pixel-requires
+    add-a
+    slice-write-out
+    add-out
+    slice-write-out-2
+    add-out-2
+    add-out-3
+    slice-write-out-3
+    add-x
+    loop-less
+    loop-again
+    same-length
+    returns)

@@ -1,0 +1,3 @@
+-- What the conversion of BGR pixels to HSV has to give.
+pub mod Hsv
+pub mod Rows
