@@ -1,0 +1,49 @@
+// The edge plane of a luma plane: `compute_edges`.
+ghost use mathlib.Core.Path.{_≡_};
+ghost use Prim.Native.Nat.{_*_, _≤_};
+ghost use lib.ListN.{length, replicate};
+ghost use Rattle.canny.specs.Edges.{strongPlane, edgePlane};
+
+fn clear(plane: &mut [u8])
+    ensures { λ _. ⌜ now (plane .exit) ≡ replicate (length (now (plane .entry))) 0 ⌝ }
+{
+    let mut i = 0;
+    while i < plane.len() {
+        plane[i] = 0;
+        i += 1;
+    }
+}
+
+// The strong pixels, 255 each. Of what mag then holds nothing is promised.
+fn strong_plane(luma: &[u8], mag: &mut [i32], edges: &mut [u8], w: usize, h: usize)
+    requires { ⌜ length (now luma) ≡ w * h ⌝ }
+    requires { ⌜ (length (now mag) ≡ w * h) × (length (now edges) ≡ w * h) ⌝ }
+    ensures { λ _. ⌜ now (edges .exit) ≡ strongPlane (now (luma .entry)) w h ⌝ }
+{
+    let median = canny_marks::median_u8(luma);
+    let low = canny_marks::low_threshold(median);
+    let high = canny_marks::high_threshold(median);
+    arch_sobel::sobel(luma, mag, edges, w, h);
+    canny_thin::non_max_suppress(mag, edges, w, h, low, high);
+    canny_hysteresis::hysteresis(edges, w, h);
+}
+
+// The edge plane, with a window of k × k. mag is scratch: as the function returns it has its length, and any content is right.
+pub fn edge_plane(luma: &[u8], mag: &mut [i32], edges: &mut [u8], w: usize, h: usize, k: u32)
+    requires { ⌜ (w ≤ 4096) × (h ≤ 4096) ⌝ }
+    requires { ⌜ length (now luma) ≡ w * h ⌝ }
+    requires { ⌜ (length (now mag) ≡ w * h) × (length (now edges) ≡ w * h) ⌝ }
+    ensures { λ _. ⌜ now (edges .exit) ≡ edgePlane (now (luma .entry)) w h k ⌝ }
+    ensures { λ _. ⌜ length (now (mag .exit)) ≡ length (now (mag .entry)) ⌝ }
+{
+    if w < 3 {
+        clear(edges);
+        return;
+    }
+    if h < 3 {
+        clear(edges);
+        return;
+    }
+    strong_plane(luma, mag, edges, w, h);
+    dilate::dilate(edges, w, h, k);
+}

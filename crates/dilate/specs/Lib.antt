@@ -1,0 +1,2 @@
+pub mod Dilate
+pub mod Scratch
