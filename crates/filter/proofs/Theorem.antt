@@ -1,0 +1,36 @@
+-- THE THEOREM: demand 3, as `specs/Claim.antt` states it, holds of every options and every list of calls from a fresh state. Assumes nothing.
+use mathlib.Core.Path.{_≡_, refl}
+use mathlib.Core.List.{List, [], _∷_}
+use Rattle.timestamp.specs.declared.MaybeTimestamp.{MaybeTimestamp}
+use Rattle.filter.specs.declared.FilterMode.{FilterMode}
+use Rattle.filter.specs.declared.FilterMode.the-variants.{Suppress, Merge}
+use Rattle.filter.specs.declared.FilterOptions.{FilterOptions}
+use Rattle.filter.specs.Flash.{fresh}
+use Rattle.filter.specs.Calls.{Frame, Call, run}
+use Rattle.filter.specs.Claim.{All, Stretch, stretches, scoredFrames, InMode, Keeps, Claim}
+use Rattle.filter.proofs.Frames.{cutsFrom}
+use Rattle.filter.proofs.Greedy.{suppressed-keeps}
+use Rattle.filter.proofs.Distance.{merged-keeps}
+use Rattle.filter.proofs.Stretch.{Played, played, cuts-are, no-others, left-out}
+
+all-map : {A : Type 0} {P Q : A → Type 0} → ((x : A) → P x → Q x) → (xs : List A) → All P xs → All Q xs
+all-map f [] h = tt
+all-map f (x ∷ xs) h = (f x (h .0), all-map f xs (h .1))
+
+by-mode : (o : FilterOptions) (mode : FilterMode) → o .«filter_mode» ≡ mode → (fs : List Frame) → InMode mode o fs (cutsFrom o fresh fs)
+by-mode o Suppress e fs = suppressed-keeps o e fs
+by-mode o Merge e fs = merged-keeps o e fs
+
+-- a list of scored frames from a fresh filter, whatever detector they come from
+pub filter-keeps : (o : FilterOptions) (fs : List Frame) → InMode (o .«filter_mode») o fs (cutsFrom o fresh fs)
+filter-keeps o fs = by-mode o (o .«filter_mode») refl fs
+
+keeps : (o : FilterOptions) (t : Stretch MaybeTimestamp) → Played o t → Keeps o t
+keeps o t p = rw (cuts-are o t p) (filter-keeps o (scoredFrames t))
+
+pub theorem : (o : FilterOptions) (calls : List Call) → Claim o calls
+theorem o calls =
+    record {
+      holds = record { first-frames = all-map (λ t p. p .0) (stretches (run o calls)) (played o calls); each-stretch = all-map (keeps o) (stretches (run o calls)) (played o calls); no-others = no-others o calls };
+      left-out = left-out o calls;
+    }

@@ -1,0 +1,42 @@
+-- Document 01, score: (h × wh + s × ws + l × wl + e × we) / sum of absolute weights, f64, left to right, each step rounded once.
+use mathlib.Core.Bool.{Bool}
+use lib.Ieee.{Float, binary64, add, mul, div, ne}
+use Rattle.score.specs.declared.Components.{Components}
+use Rattle.laws.specs.Floats.{float}
+use Rattle.score.specs.Floats.{absOf}
+
+-- four numbers: hue, saturation, luma, edges
+abbrev pub components : Float → Float → Float → Float → Components
+components h s l e = record { «delta_hue» = h; «delta_sat» = s; «delta_lum» = l; «delta_edges» = e }
+
+-- the defaults of `Options`: hue, saturation and luma count alike, edges are off
+abbrev pub defaultWeights : Components
+defaultWeights = components (float 1) (float 1) (float 1) (float 0)
+
+-- luma alone
+abbrev pub lumaOnlyWeights : Components
+lumaOnlyWeights = components (float 0) (float 0) (float 1) (float 0)
+
+-- the sum of absolute weights
+unfoldable pub sumAbs : Components → Float
+sumAbs w =
+    add binary64
+    (add binary64 (add binary64 (absOf (w .«delta_hue»)) (absOf (w .«delta_sat»))) (absOf (w .«delta_lum»)))
+    (absOf (w .«delta_edges»))
+
+-- the sum of the deltas, each times its weight
+unfoldable pub weighed : Components → Components → Float
+weighed d w =
+    add binary64
+    (add binary64
+    (add binary64 (mul binary64 (d .«delta_hue») (w .«delta_hue»)) (mul binary64 (d .«delta_sat») (w .«delta_sat»)))
+    (mul binary64 (d .«delta_lum») (w .«delta_lum»)))
+    (mul binary64 (d .«delta_edges») (w .«delta_edges»))
+
+-- the score of these deltas under these weights
+unfoldable pub scoreOf : Components → Components → Float
+scoreOf d w = div binary64 (weighed d w) (sumAbs w)
+
+-- "Edges, when the edge weight is not 0": -0.0 is 0
+unfoldable pub edgesEnabled : Components → Bool
+edgesEnabled w = ne (w .«delta_edges») (float 0)
