@@ -1,0 +1,30 @@
+-- Document 01: "Defaults and settings as in both `Options`; `simd` goes."
+use mathlib.Core.Bool.{Bool, true}
+use Prim.Native.Nat.{ℕ}
+use lib.Ieee.{Float, isNan}
+use Rattle.laws.specs.Floats.{float}
+use Rattle.score.specs.declared.Components.{Components}
+use Rattle.score.specs.declared.KernelSize.{KernelSize}
+use Rattle.score.specs.declared.KernelSize.the-variants.{Auto}
+use Rattle.score.specs.Scores.{defaultWeights}
+use Rattle.score.specs.Settings.{settingsRefusal}
+use Rattle.filter.specs.declared.FilterMode.{FilterMode}
+use Rattle.filter.specs.declared.FilterMode.the-variants.{Merge}
+use Rattle.filter.specs.declared.FilterOptions.{FilterOptions}
+use Rattle.content.specs.declared.Options.{Options}
+
+abbrev pub options : Float → ℕ → Components → FilterMode → KernelSize → Bool → Options
+options threshold minimum weights mode kernel initial =
+    record { threshold = threshold; «min_duration» = minimum; weights = weights; «filter_mode» = mode; «kernel_size» = kernel; «initial_cut» = initial }
+
+-- threshold 27, one second, the default weights, Merge, k by the frame's size, `initial_cut`
+abbrev pub defaults : Options
+defaults = options (float 27) 1000000 defaultWeights Merge Auto true
+
+-- what the filter reads of them
+abbrev pub filterOptions : Options → FilterOptions
+filterOptions o = record { «filter_mode» = o .«filter_mode»; «min_duration» = o .«min_duration»; «initial_cut» = o .«initial_cut» }
+
+-- refusals 6 to 9 of settings
+abbrev pub optionsRefusal : Options → ℕ
+optionsRefusal o = settingsRefusal (o .weights) (o .«kernel_size») (isNan (o .threshold))

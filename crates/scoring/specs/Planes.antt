@@ -1,0 +1,57 @@
+-- Document 01: a frame's hue, saturation and luma planes, packed, and those of the store.
+use mathlib.Core.List.{List, _++_}
+use Prim.Native.Nat.{ℕ, _+_, _*_}
+use lib.ListN.{take, drop}
+use Rattle.laws.specs.Lists.{tabulate}
+use Rattle.arch_hsv.specs.Hsv.{hue, saturation, value, planeOf}
+use Rattle.arch_planes.specs.Packed.{packed}
+
+-- w × h bytes each
+pub record Planes : Type 0 where
+  pub hue : List ℕ
+  pub saturation : List ℕ
+  pub luma : List ℕ
+
+-- "A luma frame has hue and saturation 0."
+abbrev pub zeros : ℕ → List ℕ
+zeros n = tabulate n (λ _. 0)
+
+unfoldable pub lumaFrame : List ℕ → ℕ → ℕ → ℕ → Planes
+lumaFrame plane w h stride = record { hue = zeros (w * h); saturation = zeros (w * h); luma = packed plane w h stride }
+
+-- a BGR frame: its luma is HSV's value
+unfoldable pub bgrFrame : List ℕ → ℕ → ℕ → ℕ → Planes
+bgrFrame pixels w h stride = record {
+  hue = planeOf hue pixels w h stride;
+  saturation = planeOf saturation pixels w h stride;
+  luma = planeOf value pixels w h stride;
+}
+
+-- an HSV frame
+unfoldable pub hsvFrame : List ℕ → List ℕ → List ℕ → ℕ → ℕ → ℕ → Planes
+hsvFrame h s v width height stride = record { hue = packed h width height stride; saturation = packed s width height stride; luma = packed v width height stride }
+
+-- the three planes, one after the other
+abbrev pub joined : Planes → List ℕ
+joined p = p .hue ++ (p .saturation ++ p .luma)
+
+-- "The store's first 4n bytes are the last frame's hue, saturation, luma and edge planes, n bytes each." The scratch has the present
+-- frame's at the same places. Bytes from 4n on are the rest.
+abbrev pub huePart : ℕ → List ℕ → List ℕ
+huePart n s = take n s
+
+abbrev pub saturationPart : ℕ → List ℕ → List ℕ
+saturationPart n s = take n (drop n s)
+
+abbrev pub lumaPart : ℕ → List ℕ → List ℕ
+lumaPart n s = take n (drop (n + n) s)
+
+abbrev pub edgePart : ℕ → List ℕ → List ℕ
+edgePart n s = take n (drop (n + (n + n)) s)
+
+abbrev pub restPart : ℕ → List ℕ → List ℕ
+restPart n s = drop (n + (n + (n + n))) s
+
+-- the first three planes there
+abbrev pub planesIn : ℕ → List ℕ → Planes
+planesIn n s = record { hue = huePart n s; saturation = saturationPart n s; luma = lumaPart n s }
