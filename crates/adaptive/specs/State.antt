@@ -1,0 +1,51 @@
+-- Document 01: the adaptive state record, its check (15), what settings and `clear` return.
+use mathlib.Core.Bool.{Bool, cond, not, _||_}
+use Prim.Native.Nat.{ℕ, _+_, _*_}
+use lib.Dec.{eqb, ltb}
+use Rattle.laws.specs.Floats.{float}
+use Rattle.timestamp.specs.declared.MaybeTimestamp.the-variants.{None}
+use Rattle.frame.specs.Checks.{tooLarge}
+use Rattle.score.specs.declared.Components.{Components}
+use Rattle.score.specs.declared.MaybeScore.the-variants.{None as noScore}
+use Rattle.score.specs.Scores.{components}
+use Rattle.stream.specs.Stream.{freshStream}
+use Rattle.window.specs.Window.{fresh as freshWindow}
+use Rattle.adaptive.specs.declared.Options.{Options}
+use Rattle.adaptive.specs.declared.Detector.{Detector}
+use Rattle.adaptive.specs.declared.Settled.{Settled}
+use Rattle.adaptive.specs.declared.Answer.{Answer}
+use Rattle.adaptive.specs.Options.{defaults, optionsRefusal}
+
+-- a state before the first frame of a stretch, of this size, with an empty window
+abbrev pub stateOf : Options → ℕ → ℕ → Detector
+stateOf o w h = record { options = o; stream = freshStream w h; window = freshWindow }
+
+-- a fresh state
+abbrev pub fresh : Options → Detector
+fresh o = stateOf o 0 0
+
+-- 15: "State is bad exactly if its settings would be refused, a side exceeds 4,096, the window count exceeds 2 × window + 1"
+unfoldable pub badState : Detector → Bool
+badState d =
+    not (eqb (optionsRefusal (d .options)) 0)
+    || tooLarge (d .stream .width) (d .stream .height)
+    || ltb (2 * d .options .«window_width» + 1) (d .window .count)
+
+-- a settings call: refused, a fresh record of the defaults; accepted, a fresh state
+unfoldable pub settled : Options → Settled
+settled o = record { number = optionsRefusal o; detector = fresh (cond (eqb (optionsRefusal o) 0) o defaults) }
+
+-- the components of an answer without a score
+abbrev pub zeroComponents : Components
+zeroComponents = components (float 0) (float 0) (float 0) (float 0)
+
+-- an answer with this state, no cut and no score. "A refusal returns its number, the old state, no cut"
+abbrev pub unscoredAnswer : Detector → ℕ → Answer
+unscoredAnswer d n = record { number = n; detector = d; cut = None; score = noScore; components = zeroComponents }
+
+-- "`clear` keeps settings and size, all else is as at the start; it refuses by 15 alone."
+abbrev pub cleared : Detector → Detector
+cleared d = stateOf (d .options) (d .stream .width) (d .stream .height)
+
+unfoldable pub clearedAnswer : Detector → Answer
+clearedAnswer d = cond (badState d) (unscoredAnswer d 15) (unscoredAnswer (cleared d) 0)

@@ -1,0 +1,1 @@
+// No code: the adaptive detector's calls, as one definition, and what a frame call promises.

@@ -1,0 +1,4 @@
+pub mod Counted
+pub mod Good
+pub mod Views
+pub mod Theorem

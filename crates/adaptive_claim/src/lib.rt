@@ -1,0 +1,1 @@
+// No code: demand 3 for lists of adaptive calls.

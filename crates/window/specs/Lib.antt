@@ -1,0 +1,4 @@
+pub mod Window
+pub mod Calls
+pub mod Claim
+pub mod Seen
