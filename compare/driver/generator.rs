@@ -1,0 +1,58 @@
+//! The generator and the digest that README.md states, shared with the Rattle crate `replay`.
+
+/// A linear congruence on 32 bits.
+pub struct Generator(pub u32);
+
+impl Generator {
+    pub fn byte(&mut self) -> u8 {
+        self.0 = ((self.0 as u64 * 1664525 + 1013904223) % (1 << 32)) as u32;
+        (self.0 / 65536 % 256) as u8
+    }
+
+    pub fn shades(&mut self, count: usize, kind: u32) -> Vec<u8> {
+        (0..count).map(|_| shade(self.byte(), kind)).collect()
+    }
+}
+
+/// A byte on fewer levels, so that equal neighbours and flat gradients occur.
+pub fn shade(byte: u8, kind: u32) -> u8 {
+    match kind {
+        0 => byte,
+        1 => byte % 2 * 255,
+        2 => byte % 3 * 127,
+        3 => byte % 6 * 51,
+        4 => 96 + byte / 4,
+        _ => 131 + byte % 2 * 62,
+    }
+}
+
+/// Adler-32.
+pub struct Digest {
+    a: u32,
+    b: u32,
+}
+
+impl Digest {
+    pub fn new() -> Self {
+        Self { a: 1, b: 0 }
+    }
+
+    pub fn bytes(&mut self, bytes: &[u8]) {
+        for &byte in bytes {
+            self.a = (self.a + byte as u32) % 65521;
+            self.b = (self.b + self.a) % 65521;
+        }
+    }
+
+    pub fn word(&mut self, word: u32) {
+        self.bytes(&word.to_le_bytes());
+    }
+
+    pub fn double(&mut self, double: f64) {
+        self.bytes(&double.to_bits().to_le_bytes());
+    }
+
+    pub fn value(&self) -> u32 {
+        self.b * 65536 + self.a
+    }
+}

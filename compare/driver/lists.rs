@@ -1,0 +1,283 @@
+//! Lists of content calls from bytes, as README.md states them, run by the oracle. The Rust takes no store, scratch or
+//! magnitudes and no state record: the refusals of those, and of settings that it takes, are answered here by number.
+use crate::generator::Generator;
+use crate::rust;
+use core::time::Duration;
+use mediatime::Timestamp;
+use scenesdetect::content::{Components, DEFAULT_WEIGHTS, Detector, Error, FilterMode, LUMA_ONLY_WEIGHTS, Options};
+use scenesdetect::content::reach;
+use scenesdetect::frame::{HsvFrame, LumaFrame, RgbFrame};
+
+/// Bytes of a record, and of the store that the lists lend.
+pub const RECORD: usize = 16;
+const STORE: usize = 6528;
+/// Bytes of the store that are shown behind the planes.
+const BEHIND: usize = 16;
+
+const WEIGHTS: [f64; 14] =
+    [0.0, -0.0, 1.0, -1.0, 0.5, 0.1, 0.2, 0.3, 0.7, 2.0, -3.25, 1048576.0, -1048576.0, 1e-300];
+
+fn weight(b: u8) -> f64 {
+    match b {
+        252 => f64::NAN,
+        253 => f64::INFINITY,
+        254 => f64::NEG_INFINITY,
+        255 => 1048577.0,
+        _ => WEIGHTS[b as usize % 14],
+    }
+}
+
+fn weights(r: &[u8]) -> Components {
+    match r[2] % 8 {
+        0 => DEFAULT_WEIGHTS,
+        1 => LUMA_ONLY_WEIGHTS,
+        2 => Components::new(1.0, 1.0, 1.0, weight(r[6])),
+        3 => Components::new(0.0, -0.0, 0.0, weight(r[6])),
+        _ => Components::new(weight(r[3]), weight(r[4]), weight(r[5]), weight(r[6])),
+    }
+}
+
+fn options(r: &[u8]) -> Options {
+    let threshold = match r[0] % 32 {
+        0 => f64::NAN,
+        1 => f64::INFINITY,
+        2 => f64::NEG_INFINITY,
+        3 => -0.0,
+        4 => 27.0,
+        _ => r[1] as f64 / 4.0,
+    };
+    let kernel = match r[8] % 8 {
+        0..=3 => None,
+        4 => Some(u32::MAX),
+        5 => Some(r[9] as u32),
+        _ => Some(2 * (r[9] as u32 % 32) + 1),
+    };
+    let minimum = match r[10] % 16 {
+        0 => 0,
+        1 => 1,
+        2 => 1_000_000,
+        3 => u64::MAX,
+        _ => r[11] as u64 * 1000,
+    };
+    Options::new()
+        .with_threshold(threshold)
+        .with_min_duration(Duration::from_micros(minimum))
+        .with_weights(weights(r))
+        .with_filter_mode(if r[7] % 2 == 0 { FilterMode::Suppress } else { FilterMode::Merge })
+        .with_kernel_size(kernel)
+        .with_initial_cut(r[7] / 2 % 2 == 0)
+        .with_simd(false)
+}
+
+/// The settings call. Rows 6 and 9 are added, so the Rust takes such settings.
+fn settled(options: Options) -> (u32, Detector) {
+    let w = options.weights();
+    let fits = |w: f64| w.abs() <= 1048576.0;
+    let refusal = if ![w.delta_hue(), w.delta_sat(), w.delta_lum(), w.delta_edges()].into_iter().all(fits) {
+        6
+    } else {
+        match Detector::try_new(options.clone()) {
+            Err(Error::ZeroWeights) => 7,
+            Err(Error::InvalidKernelSize(_)) => 8,
+            Err(e) => panic!("{e:?} is no refusal of document 01"),
+            Ok(_) if options.threshold().is_nan() => 9,
+            Ok(detector) => return (0, detector),
+        }
+    };
+    (refusal, Detector::try_new(Options::new().with_simd(false)).unwrap())
+}
+
+fn side(b: u8) -> u32 {
+    if b < 192 { b as u32 % 13 } else { b as u32 % 41 }
+}
+
+/// How far the next stamp is before 2^63 - 1.
+fn turned(clock: u64, r: &[u8]) -> u64 {
+    let step = r[2] as u64 * 1000;
+    match r[1] % 32 {
+        0 => u64::MAX,
+        1 => 0,
+        2 => i64::MAX as u64,
+        3..=6 => clock.checked_add(step).unwrap_or(clock),
+        _ => clock.checked_sub(step).unwrap_or(clock),
+    }
+}
+
+/// What a frame call is lent.
+struct Frame {
+    width: u32,
+    height: u32,
+    stride: u32,
+    need: usize,
+    /// Bytes of the three planes, of store and scratch, and magnitudes.
+    lent: [usize; 6],
+}
+
+fn frame((width, height): (u32, u32), r: &[u8]) -> Frame {
+    let faults = if r[13] % 4 == 0 { r[14] & r[15] } else { 0 };
+    let faulty = |bit: u32| faults >> bit & 1 == 1;
+    let least = if (11..=20).contains(&(r[0] % 32)) { 3 * width } else { width };
+    let stride = least + if r[6] < 128 { 0 } else { r[6] as u32 % 4 };
+    let need = (height * stride) as usize;
+    let n = (width * height) as usize;
+    let lent = |need: usize, more: u8, bit| {
+        if faulty(bit) { need.saturating_sub(1) } else { need + more as usize % 4 }
+    };
+    Frame {
+        width: if faulty(0) { 4097 } else { width },
+        height,
+        stride: if faulty(1) { least.saturating_sub(1) } else { stride },
+        need,
+        lent: [
+            lent(need, r[7], 2),
+            lent(need, r[7] / 4, 3),
+            lent(need, r[7] / 16, 4),
+            lent(4 * n, r[7] / 64, 5),
+            lent(7 * n + 2 * width.max(height) as usize, r[7] / 2, 6),
+            lent(n, r[7] / 8, 7),
+        ],
+    }
+}
+
+/// Refusals 12 to 14.
+fn memory_refusal(f: &Frame) -> u32 {
+    let n = f.width as usize * f.height as usize;
+    let needs = [4 * n, 7 * n + 2 * f.width.max(f.height) as usize, n];
+    let short = (0..3).find(|&i| f.lent[3 + i] < needs[i]);
+    short.map_or(0, |i| 12 + i as u32)
+}
+
+/// A list on its way: the detector, the planes that the frames are taken from, the store as it is to be, and what
+/// the calls brought.
+pub struct Run {
+    detector: Detector,
+    planes: [Vec<u8>; 3],
+    store: Vec<u8>,
+    size: (u32, u32),
+    clock: u64,
+    pub out: Vec<u8>,
+}
+
+impl Run {
+    /// The settings call, by record 0.
+    fn new(r: &[u8]) -> Self {
+        let (number, detector) = settled(options(r));
+        Run {
+            detector,
+            planes: [(); 3].map(|_| vec![0; 5120]),
+            store: vec![0; STORE],
+            size: (side(r[12]), side(r[13])),
+            clock: i64::MAX as u64,
+            out: number.to_le_bytes().to_vec(),
+        }
+    }
+
+    fn call(&mut self, r: &[u8]) {
+        if r[3] % 16 == 0 {
+            self.size = (side(r[4]), side(r[5]));
+        }
+        self.clock = turned(self.clock, r);
+        let bad = r[13] % 32 == 1;
+        if r[0] % 32 != 0 {
+            self.frame_call(r, bad);
+        } else if bad {
+            self.answer(15, None, false);
+        } else {
+            self.detector.clear();
+            self.answer(0, None, false);
+        }
+    }
+
+    /// Renews the planes' first bytes.
+    fn refill(&mut self, r: &[u8], need: usize) {
+        let count = match r[9] % 4 {
+            0 => 0,
+            1 => need.min(r[10] as usize),
+            _ => need,
+        };
+        let mut generator = Generator(r[11] as u32 * 256 + r[12] as u32);
+        for plane in &mut self.planes {
+            match r[8] % 8 {
+                kind @ 0..=3 => plane[..count].copy_from_slice(&generator.shades(count, kind as u32)),
+                _ => plane[..count].fill(generator.byte()),
+            }
+        }
+    }
+
+    fn frame_call(&mut self, r: &[u8], bad: bool) {
+        let f = frame(self.size, r);
+        self.refill(r, f.need);
+        let (w, h, stride) = (f.width, f.height, f.stride);
+        let [a, b, c] = [0, 1, 2].map(|i| &self.planes[i][..f.lent[i]]);
+        let frame = match r[0] % 32 {
+            1..=10 => rust::check_luma(a, w, h, stride),
+            11..=20 => rust::check_bgr(a, w, h, stride),
+            _ => rust::check_hsv(a, b, c, w, h, stride),
+        };
+        let number = if bad { 15 } else if frame != 0 { frame } else { memory_refusal(&f) };
+        if number != 0 {
+            return self.answer(number, None, false);
+        }
+        let ts = Timestamp::from_micros((i64::MAX as i128 - self.clock as i128) as i64);
+        let detector = &mut self.detector;
+        let cut = match r[0] % 32 {
+            1..=10 => detector.process_luma(LumaFrame::try_new(a, w, h, stride, ts).unwrap()),
+            11..=20 => detector.process_bgr(RgbFrame::try_new(a, w, h, stride, ts).unwrap()),
+            _ => detector.process_hsv(HsvFrame::try_new(a, b, c, w, h, stride, ts).unwrap()),
+        };
+        reach::store_into(detector, &mut self.store);
+        self.answer(0, cut, true);
+    }
+
+    /// What a call brought: the number; the cut; score and components, which only an accepted frame has; what the
+    /// readers show; the store.
+    fn answer(&mut self, number: u32, cut: Option<Timestamp>, accepted: bool) {
+        let (score, components) = (self.detector.last_score(), self.detector.last_components());
+        let zeros = Components::new(0.0, 0.0, 0.0, 0.0);
+        self.out.extend(number.to_le_bytes());
+        match cut {
+            None => self.out.push(0),
+            Some(ts) => self.present(((ts.micros() as i128 - i64::MIN as i128) as u64).to_le_bytes()),
+        }
+        self.score(score.filter(|_| accepted));
+        self.components(components.filter(|_| accepted).unwrap_or(zeros));
+        self.score(score);
+        match components {
+            None => self.out.push(0),
+            Some(c) => {
+                self.out.push(1);
+                self.components(c);
+            }
+        }
+        let (w, h) = reach::size(&self.detector);
+        self.out.extend(&self.store[..4 * (w * h) as usize + BEHIND]);
+    }
+
+    fn present(&mut self, bytes: [u8; 8]) {
+        self.out.push(1);
+        self.out.extend(bytes);
+    }
+
+    fn score(&mut self, score: Option<f64>) {
+        match score {
+            None => self.out.push(0),
+            Some(x) => self.present(x.to_bits().to_le_bytes()),
+        }
+    }
+
+    fn components(&mut self, c: Components) {
+        for x in [c.delta_hue(), c.delta_sat(), c.delta_lum(), c.delta_edges()] {
+            self.out.extend(x.to_bits().to_le_bytes());
+        }
+    }
+}
+
+/// What a list brings.
+pub fn run(script: &[u8]) -> Vec<u8> {
+    let mut records = script.chunks_exact(RECORD);
+    let mut run = Run::new(records.next().expect("a record of settings"));
+    for record in records {
+        run.call(record);
+    }
+    run.out
+}

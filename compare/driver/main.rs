@@ -1,0 +1,81 @@
+//! Compares the proved functions with the Rust. `compare/run` builds and starts it; README.md says what it does.
+//!
+//! driver ROOT            compares; ROOT is the repository's root
+//! driver ROOT --write    writes the replay programs' stored outputs anew
+//! driver ROOT --time     times both sides
+#[cfg(rattle)]
+mod compare;
+#[cfg(rattle)]
+mod edges;
+mod generator;
+mod lists;
+#[cfg(rattle)]
+mod rattle;
+mod replay;
+mod replay_filter;
+mod rust;
+mod table;
+#[cfg(rattle)]
+mod time;
+
+use std::path::{Path, PathBuf};
+use std::process::ExitCode;
+
+fn stored(root: &Path, program: &str) -> PathBuf {
+    root.join("crates").join(program).join("stdout")
+}
+
+fn write(root: &Path) -> ExitCode {
+    for (program, output) in replay::outputs() {
+        let path = stored(root, program);
+        if let Err(e) = std::fs::write(&path, &output) {
+            eprintln!("{}: {e}", path.display());
+            return ExitCode::FAILURE;
+        }
+        println!("wrote {}", path.display());
+    }
+    ExitCode::SUCCESS
+}
+
+/// The stored outputs beside the oracle's, line by line.
+fn replays(root: &Path) -> table::Row {
+    let mut row = table::Row::new("stored outputs of the replays, lines");
+    for (program, output) in replay::outputs() {
+        let text = std::fs::read_to_string(stored(root, program)).unwrap_or_default();
+        let count = output.lines().count().max(text.lines().count());
+        for i in 0..count {
+            let input = || format!("{program}, line {}", i + 1);
+            row.compare(i as u64, input, output.lines().nth(i), text.lines().nth(i));
+        }
+    }
+    row
+}
+
+#[cfg(rattle)]
+fn rows(root: &Path) -> Vec<table::Row> {
+    let mut rows = compare::rows();
+    rows.extend(edges::rows());
+    rows.push(replays(root));
+    rows
+}
+
+/// Built without the archive: the stored outputs alone.
+#[cfg(not(rattle))]
+fn rows(root: &Path) -> Vec<table::Row> {
+    println!("built without the Rattle side: only the stored outputs are compared");
+    vec![replays(root)]
+}
+
+fn main() -> ExitCode {
+    let words: Vec<String> = std::env::args().skip(1).collect();
+    let root = Path::new(words.first().expect("the repository's root"));
+    if words.get(1).is_some_and(|word| word == "--write") {
+        return write(root);
+    }
+    #[cfg(rattle)]
+    if words.get(1).is_some_and(|word| word == "--time") {
+        time::print();
+        return ExitCode::SUCCESS;
+    }
+    if table::print(&rows(root)) { ExitCode::SUCCESS } else { ExitCode::FAILURE }
+}

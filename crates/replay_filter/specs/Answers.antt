@@ -1,0 +1,30 @@
+-- compare/README.md, "Replays": what `replay_filter` feeds of an answer.
+use Prim.Native.Nat.{ℕ, _-_}
+use lib.IntN.{ℤ, pos, negsuc}
+use lib.Ieee.{binary64, toBits}
+use Rattle.timestamp.specs.declared.MaybeTimestamp.{MaybeTimestamp}
+use Rattle.timestamp.specs.declared.MaybeTimestamp.the-variants.{None, At}
+use Rattle.score.specs.declared.MaybeScore.{MaybeScore}
+use Rattle.score.specs.declared.MaybeScore.the-variants.{None as NoScore, Some}
+use Rattle.content.specs.declared.Answer.{Answer}
+use Rattle.replay.specs.declared.Digest.{Digest}
+use Rattle.replay.specs.Digest.{fed, leastFirst, stepOf}
+
+-- the 64 bits of a signed number, as a natural one
+abbrev pub bitsOf : ℤ → ℕ
+bitsOf (pos n) = n
+bitsOf (negsuc n) = 18446744073709551615 - n
+
+-- a byte 0; or a byte 1 and the stamp's 64 bits
+unfoldable pub cutFed : Digest → MaybeTimestamp → Digest
+cutFed d None = stepOf d 0
+cutFed d (At t) = fed (stepOf d 1) (leastFirst 8 (bitsOf (t .micros)))
+
+-- a byte 0; or a byte 1 and the score's bit pattern
+unfoldable pub scoreFed : Digest → MaybeScore → Digest
+scoreFed d NoScore = stepOf d 0
+scoreFed d (Some score) = fed (stepOf d 1) (leastFirst 8 (toBits binary64 score))
+
+-- the number, 32 bits; the cut; the score
+unfoldable pub answerFed : Digest → Answer → Digest
+answerFed d a = scoreFed (cutFed (fed d (leastFirst 4 (a .number))) (a .cut)) (a .score)

@@ -1,0 +1,82 @@
+-- Document 01, "Sample strip": what the definitions give at each starred row, and what the document prints there.
+use mathlib.Core.Bool.{true}
+use mathlib.Core.List.{List, [], _∷_, map}
+use Prim.Native.Nat.{ℕ, suc}
+use lib.Dec.{leb}
+use lib.IntN.{ℤ, pos}
+use Rattle.arch_hsv.specs.Hsv.{hue, saturation, value}
+use Rattle.canny_marks.specs.Marks.{lowMark, highMark}
+use Rattle.canny_marks.specs.Kernel.{autoKernelSize}
+use Rattle.timestamp.specs.declared.MaybeTimestamp.{MaybeTimestamp}
+use Rattle.timestamp.specs.declared.MaybeTimestamp.the-variants.{None, At}
+use Rattle.filter.specs.declared.FilterMode.{FilterMode}
+use Rattle.filter.specs.declared.FilterMode.the-variants.{Suppress, Merge}
+use Rattle.filter.specs.Calls.{Call, frame, run}
+use Rattle.filter.specs.Claim.{answers}
+
+-- (H, S, V) of (B, G, R)
+abbrev pub hsv : ℕ → ℕ → ℕ → List ℕ
+hsv b g r = hue b g r ∷ saturation b g r ∷ value b g r ∷ []
+
+-- the low and the high mark of a median
+abbrev pub marks : ℕ → List ℕ
+marks m = lowMark m ∷ highMark m ∷ []
+
+-- k of each width and height of the row
+abbrev pub kernels : List ℕ
+kernels = autoKernelSize 287 289 ∷ autoKernelSize 288 288 ∷ autoKernelSize 1920 1080 ∷ []
+
+-- a frame with that stamp and score, at threshold 27
+abbrev pub scored : ℕ → ℕ → Call
+scored stamp score = frame 1 1 (record { stamp = record { micros = pos stamp }; above = leb 27 score })
+
+-- a frame without a score, then the scored frames of the row
+abbrev pub strip : List Call
+strip = scored 0 0 ∷ scored 400000 30 ∷ scored 900000 30 ∷ scored 1400000 30 ∷ scored 2400000 30 ∷ scored 3400000 5 ∷ []
+
+-- for each answer that is a cut: the number of its call, from 0, and the cut
+abbrev pub cutsFrom : ℕ → List MaybeTimestamp → List ℤ
+cutsFrom n [] = []
+cutsFrom n (None ∷ rs) = cutsFrom (suc n) rs
+cutsFrom n (At t ∷ rs) = pos n ∷ t .micros ∷ cutsFrom (suc n) rs
+
+-- minimum 1,000,000, `initial_cut`
+abbrev pub filtered : FilterMode → List ℤ
+filtered mode = cutsFrom 0 (answers (run (record { «filter_mode» = mode; «min_duration» = 1000000; «initial_cut» = true }) strip))
+
+-- a row of natural numbers
+abbrev pub row : List ℕ → List ℤ
+row ns = map pos ns
+
+abbrev pub given : List (List ℤ)
+given =
+    row (hsv 0 0 255)
+    ∷ row (hsv 0 255 0)
+    ∷ row (hsv 1 0 255)
+    ∷ row (hsv 1 0 60)
+    ∷ row (hsv 1 1 2)
+    ∷ row (marks 3)
+    ∷ row (marks 191)
+    ∷ row (marks 192)
+    ∷ row (marks 255)
+    ∷ row kernels
+    ∷ filtered Suppress
+    ∷ filtered Merge
+    ∷ []
+
+-- call 5 is the frame at 3400000
+abbrev pub printed : List (List ℤ)
+printed =
+    row (0 ∷ 255 ∷ 255 ∷ [])
+    ∷ row (60 ∷ 255 ∷ 255 ∷ [])
+    ∷ row (179 ∷ 255 ∷ 255 ∷ [])
+    ∷ row (179 ∷ 255 ∷ 60 ∷ [])
+    ∷ row (0 ∷ 128 ∷ 2 ∷ [])
+    ∷ row (1 ∷ 4 ∷ [])
+    ∷ row (127 ∷ 254 ∷ [])
+    ∷ row (127 ∷ 255 ∷ [])
+    ∷ row (169 ∷ 255 ∷ [])
+    ∷ row (5 ∷ 7 ∷ 13 ∷ [])
+    ∷ row (1 ∷ 400000 ∷ 3 ∷ 1400000 ∷ 4 ∷ 2400000 ∷ [])
+    ∷ row (1 ∷ 400000 ∷ 5 ∷ 2400000 ∷ [])
+    ∷ []

@@ -1,0 +1,1 @@
+// No code: the starred sample rows of document 01, proved of the definitions.
