@@ -335,6 +335,7 @@ pub fn step(d: Detector, width: u32, height: u32, ts: Timestamp, sums: Sums) -> 
         let next = filter::flash_filter(filter_options(o), f, ts, score::above(value, o.threshold));
         let after = next.filter;
         let cut = next.cut;
+        let shown = s.last_score;
         let detector = Detector {
             options: o,
             stream: s,
@@ -344,7 +345,7 @@ pub fn step(d: Detector, width: u32, height: u32, ts: Timestamp, sums: Sums) -> 
             number: 0,
             detector: detector,
             cut: cut,
-            score: MaybeScore::Some(value),
+            score: shown,
             components: deltas,
         };
     }
