@@ -1,19 +1,20 @@
 // Lists of content calls, described by bytes as compare/README.md states, run from the fresh state on memory of their own. What
 // each call brings is written out as bytes. These functions only make inputs and write outputs down: their contracts say where
 // they write, and the calls' own contracts say what a call brings.
-mod input;
-mod memory;
 mod output;
+mod state;
 
 ghost use Prim.Native.Nat.{_≤_};
-ghost use Rattle.content_lists.specs.Wrote.{Wrote};
+ghost use Rattle.call_lists.specs.Wrote.{Wrote};
+use call_lists::input;
+use call_lists::input::Size;
+use call_lists::memory;
+use call_lists::memory::Numbers;
 use content::Answer;
 use content::Detector;
-use input::Size;
-use memory::Numbers;
 use timestamp::Timestamp;
 
-// One frame call: kinds 1 to 10 are luma, 11 to 20 BGR and the others HSV.
+// A frame call: kinds 1 to 10 are luma, 11 to 20 BGR and the others HSV.
 fn frame_call(
     d: Detector,
     kind: u32,
@@ -161,7 +162,7 @@ fn turn(
     let size = input::next_size(before, script, i);
     let clock = input::next_clock(run.clock, script, i);
     let f = memory::frame(size, script, i);
-    let given = input::given(was, script, i);
+    let given = state::given(was, script, i);
     let answer = call(
         given,
         script,
@@ -175,7 +176,7 @@ fn turn(
         scratch,
         magnitudes,
     );
-    let state = input::kept(was, answer, script, i);
+    let state = state::kept(was, answer, script, i);
     let at = output::report(out, run.at, answer, state, store);
     List {
         state: state,
@@ -231,10 +232,10 @@ pub fn run(script: &[u8], out: &mut [u8]) -> usize
     let mut store = [0u8; 6528];
     let mut scratch = [0u8; 11520];
     let mut magnitudes = [0i32; 1664];
-    let settled = content::try_new(input::settings(script));
+    let settled = content::try_new(state::settings(script));
     let state = settled.detector;
     let size = input::first_size(script);
-    let at = output::put_word(out, 0, settled.number);
+    let at = call_lists::output::put_word(out, 0, settled.number);
     let start = List {
         state: state,
         size: size,

@@ -1,132 +1,8 @@
-// What a call brings, written down as bytes from a place on. What does not fit in out is left out.
-ghost use Rattle.content_lists.specs.Wrote.{Wrote};
-use crate::memory;
+// What a content call brings, written down as bytes from a place on.
+ghost use Rattle.call_lists.specs.Wrote.{Wrote};
+use call_lists::output;
 use content::Answer;
 use content::Detector;
-use score::Components;
-use score::MaybeComponents;
-use score::MaybeScore;
-use timestamp::MaybeTimestamp;
-use timestamp::Since;
-use timestamp::Timestamp;
-
-// One byte at `at`; returns the next place.
-fn put(out: &mut [u8], at: usize, b: u8) -> usize
-    ensures { λ r. ⌜ Wrote (now (out .entry)) (now (out .exit)) at r ⌝ }
-{
-    if at < out.len() {
-        out[at] = b;
-        return at + 1;
-    }
-    at
-}
-
-// A number of 32 bits, least byte first.
-pub fn put_word(out: &mut [u8], at: usize, n: u32) -> usize
-    ensures { λ r. ⌜ Wrote (now (out .entry)) (now (out .exit)) at r ⌝ }
-{
-    let a = put(out, at, (n % 256) as u8);
-    let b = put(out, a, (n / 256 % 256) as u8);
-    let c = put(out, b, (n / 65536 % 256) as u8);
-    put(out, c, (n / 16777216 % 256) as u8)
-}
-
-// A number of 64 bits, least byte first.
-fn put_long(out: &mut [u8], at: usize, n: u64) -> usize
-    ensures { λ r. ⌜ Wrote (now (out .entry)) (now (out .exit)) at r ⌝ }
-{
-    let a = put_word(out, at, (n % 4294967296) as u32);
-    put_word(out, a, (n / 4294967296 % 4294967296) as u32)
-}
-
-fn put_double(out: &mut [u8], at: usize, x: f64) -> usize
-    ensures { λ r. ⌜ Wrote (now (out .entry)) (now (out .exit)) at r ⌝ }
-{
-    put_long(out, at, replay::pattern(x))
-}
-
-fn put_components(out: &mut [u8], at: usize, c: Components) -> usize
-    ensures { λ r. ⌜ Wrote (now (out .entry)) (now (out .exit)) at r ⌝ }
-{
-    let hue = put_double(out, at, c.delta_hue);
-    let saturation = put_double(out, hue, c.delta_sat);
-    let luma = put_double(out, saturation, c.delta_lum);
-    put_double(out, luma, c.delta_edges)
-}
-
-// How far a stamp is past -2^63.
-fn raised(t: Timestamp) -> u64 {
-    match timestamp::duration_since(
-        t,
-        Timestamp {
-            micros: -9223372036854775808,
-        },
-    ) {
-        Since::Earlier => 0,
-        Since::Micros(n) => n,
-    }
-}
-
-// 0, or 1 and the stamp.
-fn put_cut(out: &mut [u8], at: usize, cut: MaybeTimestamp) -> usize
-    ensures { λ r. ⌜ Wrote (now (out .entry)) (now (out .exit)) at r ⌝ }
-{
-    match cut {
-        MaybeTimestamp::None => put(out, at, 0),
-        MaybeTimestamp::At(t) => {
-            let next = put(out, at, 1);
-            put_long(out, next, raised(t))
-        }
-    }
-}
-
-// 0, or 1 and the score.
-fn put_score(out: &mut [u8], at: usize, score: MaybeScore) -> usize
-    ensures { λ r. ⌜ Wrote (now (out .entry)) (now (out .exit)) at r ⌝ }
-{
-    match score {
-        MaybeScore::None => put(out, at, 0),
-        MaybeScore::Some(x) => {
-            let next = put(out, at, 1);
-            put_double(out, next, x)
-        }
-    }
-}
-
-// 0, or 1 and the components.
-fn put_last(out: &mut [u8], at: usize, last: MaybeComponents) -> usize
-    ensures { λ r. ⌜ Wrote (now (out .entry)) (now (out .exit)) at r ⌝ }
-{
-    match last {
-        MaybeComponents::None => put(out, at, 0),
-        MaybeComponents::Some(c) => {
-            let next = put(out, at, 1);
-            put_components(out, next, c)
-        }
-    }
-}
-
-fn put_bytes(out: &mut [u8], start: usize, src: &[u8]) -> usize
-    ensures { λ r. ⌜ Wrote (now (out .entry)) (now (out .exit)) start r ⌝ }
-{
-    let mut at = start;
-    let mut i = 0;
-    while i < src.len() {
-        at = put(out, at, src[i]);
-        i += 1;
-    }
-    at
-}
-
-// The four planes of the state's size, and 16 bytes behind them.
-fn put_store(out: &mut [u8], at: usize, d: Detector, store: &[u8]) -> usize
-    ensures { λ r. ⌜ Wrote (now (out .entry)) (now (out .exit)) at r ⌝ }
-{
-    let s = d.stream;
-    let n = 4 * memory::area(s.width, s.height) + 16;
-    let e = memory::at_most(n, store.len());
-    put_bytes(out, at, &store[..e])
-}
 
 // The answer, what the readers show of the state after the call, and the store.
 pub fn report(out: &mut [u8], start: usize, answer: Answer, d: Detector, store: &[u8]) -> usize
@@ -135,11 +11,8 @@ pub fn report(out: &mut [u8], start: usize, answer: Answer, d: Detector, store: 
     let cut = answer.cut;
     let score = answer.score;
     let components = answer.components;
-    let a = put_word(out, start, answer.number);
-    let b = put_cut(out, a, cut);
-    let c = put_score(out, b, score);
-    let e = put_components(out, c, components);
-    let f = put_score(out, e, content::last_score(d));
-    let g = put_last(out, f, content::last_components(d));
-    put_store(out, g, d, store)
+    let s = d.stream;
+    let a = output::put_answer(out, start, answer.number, cut, score, components);
+    let b = output::put_last(out, a, content::last_score(d), content::last_components(d));
+    output::put_store(out, b, s.width, s.height, store)
 }

@@ -17,7 +17,7 @@ ghost use Rattle.canny_marks.specs.Kernel.{autoKernelSize};
 ghost use Rattle.canny.specs.Edges.{edgePlane};
 ghost use Rattle.timestamp.specs.Stamps.{durationSince, saturatingSub};
 ghost use Rattle.exports.specs.Guard.{number, after, comparable, packed24, microsOf, earlierOf};
-ghost use Rattle.content_lists.specs.Wrote.{Wrote};
+ghost use Rattle.call_lists.specs.Wrote.{Wrote};
 use timestamp::Since;
 use timestamp::Timestamp;
 

@@ -4,8 +4,8 @@ use Prim.Native.Nat.{_-_}
 use native.Mathlib.Omega.{arith}
 use lib.ListN.{length}
 use borrow.Author.Needs.{needs}
-use Rattle.content_lists.specs.Wrote.{Wrote}
-use Rattle.content_lists.proofs.Writing.{wrote-none, wrote-both}
+use Rattle.call_lists.specs.Wrote.{Wrote}
+use Rattle.call_lists.proofs.Writing.{wrote-none, wrote-both}
 use Rattle.content_lists.proofs.calls.Statement.{statement}
 use Rattle.content_lists.proofs.calls.Tie as tie
 

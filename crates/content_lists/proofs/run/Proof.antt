@@ -1,6 +1,6 @@
 -- `run` meets its contract: the settings' number, then the calls.
 use borrow.Author.Needs.{needs}
-use Rattle.content_lists.proofs.Writing.{wrote-both}
+use Rattle.call_lists.proofs.Writing.{wrote-both}
 use Rattle.content_lists.proofs.run.Statement.{statement}
 use Rattle.content_lists.proofs.run.Tie as tie
 
