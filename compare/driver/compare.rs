@@ -1,9 +1,11 @@
 //! Both sides on the same inputs.
 use crate::generator::Generator;
+use crate::lists::{self, Listed};
 use crate::table::Row;
-use crate::{lists, rattle, rust};
+use crate::{rattle, rust};
 use core::time::Duration;
 use mediatime::Timestamp;
+use scenesdetect::{adaptive, content};
 
 const MOST: u32 = 40;
 const KINDS: u32 = 4;
@@ -24,6 +26,7 @@ pub fn rows() -> Vec<Row> {
         since(),
         subtracted(),
         content_lists(),
+        adaptive_lists(),
     ]
 }
 
@@ -386,34 +389,57 @@ impl Random {
 }
 
 const LISTS: u64 = 250_000;
+const ADAPTIVE_LISTS: u64 = 200_000;
 
-/// Whole lists of 1 to 24 content calls: all that each call brings. Of a list that differs the calls behind the first
-/// that shows it are left out.
-fn content_lists() -> Row {
-    let mut row = Row::new("whole lists of content calls");
+/// The proved side of a list, which writes to lent memory.
+type List = for<'a> fn(&[u8], &'a mut [u8]) -> &'a [u8];
+
+/// Whole lists of calls: all that each call brings. Of a list that differs the calls behind the first that shows it
+/// are left out. Each list's detector is shown at its end.
+fn whole_lists<D: Listed>(row: &mut Row, counts: impl Iterator<Item = u64>, rattle: List, mut seen: impl FnMut(&D)) {
     let mut random = Random(6);
-    let mut out = vec![0; 24 * 6600];
-    let mut calls = 0;
-    for list in 0..LISTS {
-        let count = list % 24 + 1;
+    let mut out = vec![0; LONG as usize * 6700];
+    for count in counts {
         let mut script: Vec<u8> = (0..=count).flat_map(|_| random.record()).collect();
-        calls += count;
-        let mut expected = lists::run(&script);
-        if expected != rattle::content_list(&script, &mut out) {
-            script = shortest(&script, &mut out);
-            expected = lists::run(&script);
+        let (mut expected, detector) = lists::run::<D>(&script);
+        seen(&detector);
+        if expected != rattle(&script, &mut out) {
+            script = shortest::<D>(&script, rattle, &mut out);
+            expected = lists::run::<D>(&script).0;
         }
-        let found = rattle::content_list(&script, &mut out);
+        let found = rattle(&script, &mut out);
         let input = || format!("records of 16 bytes {script:?}");
         row.compare(script.len() as u64, input, &expected[..], found);
     }
-    println!("{LISTS} lists of content calls, {calls} calls");
-    row
 }
 
 /// The shortest start of a list that shows a difference.
-fn shortest(script: &[u8], out: &mut [u8]) -> Vec<u8> {
+fn shortest<D: Listed>(script: &[u8], rattle: List, out: &mut [u8]) -> Vec<u8> {
     let starts = (lists::RECORD..=script.len()).step_by(lists::RECORD).map(|n| &script[..n]);
-    let mut differing = starts.filter(|start| lists::run(start) != rattle::content_list(start, out));
+    let mut differing = starts.filter(|start| lists::run::<D>(start).0 != rattle(start, out));
     differing.next().expect("the whole list differs").to_vec()
+}
+
+/// Lists of 1 to 24 calls.
+fn content_lists() -> Row {
+    let mut row = Row::new("whole lists of content calls");
+    let counts = (0..LISTS).map(|list| list % 24 + 1);
+    whole_lists::<content::Detector>(&mut row, counts.clone(), rattle::content_list, |_| ());
+    println!("{LISTS} lists of content calls, {} calls", counts.sum::<u64>());
+    row
+}
+
+/// Calls of a long list of adaptive calls, in which wide windows fill: one list in sixteen is one.
+const LONG: u64 = 240;
+
+fn adaptive_lists() -> Row {
+    let mut row = Row::new("whole lists of adaptive calls");
+    let counts = (0..ADAPTIVE_LISTS).map(|list| if list % 16 == 15 { LONG } else { list % 24 + 1 });
+    let mut full = [0; 65];
+    whole_lists(&mut row, counts.clone(), rattle::adaptive_list, |detector: &adaptive::Detector| {
+        full[detector.options().window_width() as usize] += detector.last_adaptive_ratio().is_some() as u64;
+    });
+    println!("{ADAPTIVE_LISTS} lists of adaptive calls, {} calls", counts.sum::<u64>());
+    println!("lists with a full window at their end, by its width from 1 to 64: {:?}", &full[1..]);
+    row
 }

@@ -1,11 +1,11 @@
-//! Lists of content calls from bytes, as README.md states them, run by the oracle. The Rust takes no store, scratch or
-//! magnitudes and no state record: the refusals of those, and of settings that it takes, are answered here by number.
+//! Lists of content or adaptive calls from bytes, as README.md states them, run by the oracle. The Rust takes no store,
+//! scratch or magnitudes and no state record: the refusals of those, and of settings that it takes, are answered here
+//! by number.
 use crate::generator::Generator;
 use crate::rust;
 use core::time::Duration;
 use mediatime::Timestamp;
-use scenesdetect::content::{Components, DEFAULT_WEIGHTS, Detector, Error, FilterMode, LUMA_ONLY_WEIGHTS, Options};
-use scenesdetect::content::reach;
+use scenesdetect::content::{self, Components, DEFAULT_WEIGHTS, LUMA_ONLY_WEIGHTS, reach};
 use scenesdetect::frame::{HsvFrame, LumaFrame, RgbFrame};
 
 /// Bytes of a record, and of the store that the lists lend.
@@ -14,8 +14,63 @@ const STORE: usize = 6528;
 /// Bytes of the store that are shown behind the planes.
 const BEHIND: usize = 16;
 
-const WEIGHTS: [f64; 14] =
-    [0.0, -0.0, 1.0, -1.0, 0.5, 0.1, 0.2, 0.3, 0.7, 2.0, -3.25, 1048576.0, -1048576.0, 1e-300];
+/// A detector as the lists call it.
+pub trait Listed: Sized {
+    /// The settings call, by record 0: its number, and the detector that the calls go on from.
+    fn settled(r: &[u8]) -> (u32, Self);
+    /// Whether a call is a `clear`.
+    fn is_clear(r: &[u8]) -> bool;
+    fn clear(&mut self);
+    fn luma(&mut self, frame: LumaFrame<'_>) -> Option<Timestamp>;
+    fn bgr(&mut self, frame: RgbFrame<'_>) -> Option<Timestamp>;
+    fn hsv(&mut self, frame: HsvFrame<'_>) -> Option<Timestamp>;
+    /// The detector that scores the frames.
+    fn scorer(&self) -> &content::Detector;
+    /// What is shown of its state besides the scorer's.
+    fn show(&self, out: &mut Output);
+}
+
+/// What the calls brought, as bytes.
+#[derive(Default)]
+pub struct Output(pub Vec<u8>);
+
+impl Output {
+    pub fn word(&mut self, number: u32) {
+        self.0.extend(number.to_le_bytes());
+    }
+
+    pub fn long(&mut self, number: u64) {
+        self.0.extend(number.to_le_bytes());
+    }
+
+    pub fn double(&mut self, x: f64) {
+        self.long(x.to_bits());
+    }
+
+    /// 0, or 1 and the stamp plus 2^63.
+    pub fn stamp(&mut self, stamp: Option<Timestamp>) {
+        self.0.push(stamp.is_some() as u8);
+        if let Some(ts) = stamp {
+            self.long((ts.micros() as i128 - i64::MIN as i128) as u64);
+        }
+    }
+
+    /// 0, or 1 and the score.
+    pub fn score(&mut self, score: Option<f64>) {
+        self.0.push(score.is_some() as u8);
+        if let Some(x) = score {
+            self.double(x);
+        }
+    }
+
+    fn components(&mut self, c: Components) {
+        for x in [c.delta_hue(), c.delta_sat(), c.delta_lum(), c.delta_edges()] {
+            self.double(x);
+        }
+    }
+}
+
+const WEIGHTS: [f64; 14] = [0.0, -0.0, 1.0, -1.0, 0.5, 0.1, 0.2, 0.3, 0.7, 2.0, -3.25, 1048576.0, -1048576.0, 1e-300];
 
 fn weight(b: u8) -> f64 {
     match b {
@@ -27,7 +82,7 @@ fn weight(b: u8) -> f64 {
     }
 }
 
-fn weights(r: &[u8]) -> Components {
+pub fn weights(r: &[u8]) -> Components {
     match r[2] % 8 {
         0 => DEFAULT_WEIGHTS,
         1 => LUMA_ONLY_WEIGHTS,
@@ -37,54 +92,44 @@ fn weights(r: &[u8]) -> Components {
     }
 }
 
-fn options(r: &[u8]) -> Options {
-    let threshold = match r[0] % 32 {
+/// Row 6 is added, so the Rust takes other weights.
+pub fn weights_fit(w: Components) -> bool {
+    [w.delta_hue(), w.delta_sat(), w.delta_lum(), w.delta_edges()].into_iter().all(|w| w.abs() <= 1048576.0)
+}
+
+/// A threshold by its kind: one of the odd ones, or the other.
+pub fn threshold(kind: u8, other: f64) -> f64 {
+    match kind % 32 {
         0 => f64::NAN,
         1 => f64::INFINITY,
         2 => f64::NEG_INFINITY,
         3 => -0.0,
         4 => 27.0,
-        _ => r[1] as f64 / 4.0,
-    };
-    let kernel = match r[8] % 8 {
+        _ => other,
+    }
+}
+
+pub fn kernel(r: &[u8]) -> Option<u32> {
+    match r[8] % 8 {
         0..=3 => None,
         4 => Some(u32::MAX),
         5 => Some(r[9] as u32),
         _ => Some(2 * (r[9] as u32 % 32) + 1),
-    };
-    let minimum = match r[10] % 16 {
+    }
+}
+
+pub fn minimum(r: &[u8]) -> Duration {
+    Duration::from_micros(match r[10] % 16 {
         0 => 0,
         1 => 1,
         2 => 1_000_000,
         3 => u64::MAX,
         _ => r[11] as u64 * 1000,
-    };
-    Options::new()
-        .with_threshold(threshold)
-        .with_min_duration(Duration::from_micros(minimum))
-        .with_weights(weights(r))
-        .with_filter_mode(if r[7] % 2 == 0 { FilterMode::Suppress } else { FilterMode::Merge })
-        .with_kernel_size(kernel)
-        .with_initial_cut(r[7] / 2 % 2 == 0)
-        .with_simd(false)
+    })
 }
 
-/// The settings call. Rows 6 and 9 are added, so the Rust takes such settings.
-fn settled(options: Options) -> (u32, Detector) {
-    let w = options.weights();
-    let fits = |w: f64| w.abs() <= 1048576.0;
-    let refusal = if ![w.delta_hue(), w.delta_sat(), w.delta_lum(), w.delta_edges()].into_iter().all(fits) {
-        6
-    } else {
-        match Detector::try_new(options.clone()) {
-            Err(Error::ZeroWeights) => 7,
-            Err(Error::InvalidKernelSize(_)) => 8,
-            Err(e) => panic!("{e:?} is no refusal of document 01"),
-            Ok(_) if options.threshold().is_nan() => 9,
-            Ok(detector) => return (0, detector),
-        }
-    };
-    (refusal, Detector::try_new(Options::new().with_simd(false)).unwrap())
+pub fn initial_cut(r: &[u8]) -> bool {
+    r[7] / 2 % 2 == 0
 }
 
 fn side(b: u8) -> u32 {
@@ -149,26 +194,28 @@ fn memory_refusal(f: &Frame) -> u32 {
 
 /// A list on its way: the detector, the planes that the frames are taken from, the store as it is to be, and what
 /// the calls brought.
-pub struct Run {
-    detector: Detector,
+struct Run<D> {
+    detector: D,
     planes: [Vec<u8>; 3],
     store: Vec<u8>,
     size: (u32, u32),
     clock: u64,
-    pub out: Vec<u8>,
+    out: Output,
 }
 
-impl Run {
+impl<D: Listed> Run<D> {
     /// The settings call, by record 0.
     fn new(r: &[u8]) -> Self {
-        let (number, detector) = settled(options(r));
+        let (number, detector) = D::settled(r);
+        let mut out = Output::default();
+        out.word(number);
         Run {
             detector,
             planes: [(); 3].map(|_| vec![0; 5120]),
             store: vec![0; STORE],
             size: (side(r[12]), side(r[13])),
             clock: i64::MAX as u64,
-            out: number.to_le_bytes().to_vec(),
+            out,
         }
     }
 
@@ -178,7 +225,7 @@ impl Run {
         }
         self.clock = turned(self.clock, r);
         let bad = r[13] % 32 == 1;
-        if r[0] % 32 != 0 {
+        if !D::is_clear(r) {
             self.frame_call(r, bad);
         } else if bad {
             self.answer(15, None, false);
@@ -210,74 +257,58 @@ impl Run {
         let (w, h, stride) = (f.width, f.height, f.stride);
         let [a, b, c] = [0, 1, 2].map(|i| &self.planes[i][..f.lent[i]]);
         let frame = match r[0] % 32 {
-            1..=10 => rust::check_luma(a, w, h, stride),
+            0..=10 => rust::check_luma(a, w, h, stride),
             11..=20 => rust::check_bgr(a, w, h, stride),
             _ => rust::check_hsv(a, b, c, w, h, stride),
         };
-        let number = if bad { 15 } else if frame != 0 { frame } else { memory_refusal(&f) };
+        let number = if bad {
+            15
+        } else if frame != 0 {
+            frame
+        } else {
+            memory_refusal(&f)
+        };
         if number != 0 {
             return self.answer(number, None, false);
         }
         let ts = Timestamp::from_micros((i64::MAX as i128 - self.clock as i128) as i64);
         let detector = &mut self.detector;
         let cut = match r[0] % 32 {
-            1..=10 => detector.process_luma(LumaFrame::try_new(a, w, h, stride, ts).unwrap()),
-            11..=20 => detector.process_bgr(RgbFrame::try_new(a, w, h, stride, ts).unwrap()),
-            _ => detector.process_hsv(HsvFrame::try_new(a, b, c, w, h, stride, ts).unwrap()),
+            0..=10 => detector.luma(LumaFrame::try_new(a, w, h, stride, ts).unwrap()),
+            11..=20 => detector.bgr(RgbFrame::try_new(a, w, h, stride, ts).unwrap()),
+            _ => detector.hsv(HsvFrame::try_new(a, b, c, w, h, stride, ts).unwrap()),
         };
-        reach::store_into(detector, &mut self.store);
+        reach::store_into(detector.scorer(), &mut self.store);
         self.answer(0, cut, true);
     }
 
     /// What a call brought: the number; the cut; score and components, which only an accepted frame has; what the
     /// readers show; the store.
     fn answer(&mut self, number: u32, cut: Option<Timestamp>, accepted: bool) {
-        let (score, components) = (self.detector.last_score(), self.detector.last_components());
+        let (out, scorer) = (&mut self.out, self.detector.scorer());
+        let (score, components) = (scorer.last_score(), scorer.last_components());
         let zeros = Components::new(0.0, 0.0, 0.0, 0.0);
-        self.out.extend(number.to_le_bytes());
-        match cut {
-            None => self.out.push(0),
-            Some(ts) => self.present(((ts.micros() as i128 - i64::MIN as i128) as u64).to_le_bytes()),
+        out.word(number);
+        out.stamp(cut);
+        out.score(score.filter(|_| accepted));
+        out.components(components.filter(|_| accepted).unwrap_or(zeros));
+        out.score(score);
+        out.0.push(components.is_some() as u8);
+        if let Some(c) = components {
+            out.components(c);
         }
-        self.score(score.filter(|_| accepted));
-        self.components(components.filter(|_| accepted).unwrap_or(zeros));
-        self.score(score);
-        match components {
-            None => self.out.push(0),
-            Some(c) => {
-                self.out.push(1);
-                self.components(c);
-            }
-        }
-        let (w, h) = reach::size(&self.detector);
-        self.out.extend(&self.store[..4 * (w * h) as usize + BEHIND]);
-    }
-
-    fn present(&mut self, bytes: [u8; 8]) {
-        self.out.push(1);
-        self.out.extend(bytes);
-    }
-
-    fn score(&mut self, score: Option<f64>) {
-        match score {
-            None => self.out.push(0),
-            Some(x) => self.present(x.to_bits().to_le_bytes()),
-        }
-    }
-
-    fn components(&mut self, c: Components) {
-        for x in [c.delta_hue(), c.delta_sat(), c.delta_lum(), c.delta_edges()] {
-            self.out.extend(x.to_bits().to_le_bytes());
-        }
+        self.detector.show(out);
+        let (w, h) = reach::size(scorer);
+        out.0.extend(&self.store[..4 * (w * h) as usize + BEHIND]);
     }
 }
 
-/// What a list brings.
-pub fn run(script: &[u8]) -> Vec<u8> {
+/// What a list brings, and the detector after it.
+pub fn run<D: Listed>(script: &[u8]) -> (Vec<u8>, D) {
     let mut records = script.chunks_exact(RECORD);
     let mut run = Run::new(records.next().expect("a record of settings"));
     for record in records {
         run.call(record);
     }
-    run.out
+    (run.out.0, run.detector)
 }

@@ -3,8 +3,10 @@
 //! driver ROOT            compares; ROOT is the repository's root
 //! driver ROOT --write    writes the replay programs' stored outputs anew
 //! driver ROOT --time     times both sides
+mod adaptive_lists;
 #[cfg(rattle)]
 mod compare;
+mod content_lists;
 #[cfg(rattle)]
 mod edges;
 mod generator;

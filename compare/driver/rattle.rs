@@ -62,6 +62,7 @@ mod c {
         pub safe fn mw_high_threshold(median: u8) -> u8;
         pub safe fn mw_auto_kernel_size(width: u32, height: u32) -> u32;
         pub fn mw_content_list(script: *const u8, script_len: usize, out: *mut u8, out_len: usize) -> u64;
+        pub fn mw_adaptive_list(script: *const u8, script_len: usize, out: *mut u8, out_len: usize) -> u64;
         pub safe fn mw_is_earlier(ts: i64, earlier: i64) -> u32;
         pub safe fn mw_duration_since(ts: i64, earlier: i64) -> u64;
         pub safe fn mw_saturating_sub_duration(ts: i64, d: u64) -> i64;
@@ -147,5 +148,11 @@ pub fn median(luma: &[u8]) -> u8 {
 /// What a list of content calls brings, written to `out`; the rest of `out` stays.
 pub fn content_list<'a>(script: &[u8], out: &'a mut [u8]) -> &'a [u8] {
     let count = unsafe { c::mw_content_list(script.as_ptr(), script.len(), out.as_mut_ptr(), out.len()) };
+    &out[..count as usize]
+}
+
+/// The same of a list of adaptive calls.
+pub fn adaptive_list<'a>(script: &[u8], out: &'a mut [u8]) -> &'a [u8] {
+    let count = unsafe { c::mw_adaptive_list(script.as_ptr(), script.len(), out.as_mut_ptr(), out.len()) };
     &out[..count as usize]
 }

@@ -2,6 +2,7 @@
 //! batches in words.
 use crate::generator::{Digest, Generator};
 use crate::{lists, rust};
+use scenesdetect::content;
 use std::fmt::Write;
 
 /// The programs by name, with what each prints.
@@ -215,7 +216,7 @@ fn content() -> String {
     for batch in 0..80 {
         let mut digest = Digest::new();
         for c in 0..256 {
-            digest.bytes(&lists::run(&generator.shades((c % 24 + 2) * lists::RECORD, 0)));
+            digest.bytes(&lists::run::<content::Detector>(&generator.shades((c % 24 + 2) * lists::RECORD, 0)).0);
         }
         writeln!(out, "lists {batch} {}", digest.value()).unwrap();
     }

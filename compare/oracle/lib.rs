@@ -1,6 +1,6 @@
 //! The oracle: the Rust's files, unchanged, under a root of our own. `compare/run` puts them beside this file in
-//! target/compare/source; content.rs gets one line at its end, which declares the child module content/reach.rs
-//! that reaches its private functions. SIMD is left out by `--cfg miri`.
+//! target/compare/source; content.rs and adaptive.rs get one line at their end, which declares a child module
+//! (content/reach.rs, adaptive/reach.rs) that reaches what is private. SIMD is left out by `--cfg miri`.
 #![allow(dead_code, unused_imports)]
 
 pub mod adaptive;

@@ -273,3 +273,11 @@ pub extern "C" fn mw_content_list(script: &[u8], out: &mut [u8]) -> u64
 {
     content_lists::run(script, out) as u64
 }
+
+// The same for a list of adaptive calls.
+#[no_mangle]
+pub extern "C" fn mw_adaptive_list(script: &[u8], out: &mut [u8]) -> u64
+    ensures { λ r. ⌜ Wrote (now (out .entry)) (now (out .exit)) 0 r ⌝ }
+{
+    adaptive_lists::run(script, out) as u64
+}
