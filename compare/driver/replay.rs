@@ -1,18 +1,23 @@
 //! What the replay programs must print, worked out by the oracle: their stored `stdout`. README.md states the
 //! batches in words.
 use crate::generator::{Digest, Generator};
-use crate::{lists, rust};
-use scenesdetect::content;
+use crate::lists::{self, Listed};
+use crate::{adaptive_lists, rust};
+use mediatime::Timestamp;
+use scenesdetect::content::{Components, LUMA_ONLY_WEIGHTS};
+use scenesdetect::frame::LumaFrame;
+use scenesdetect::{adaptive, content};
 use std::fmt::Write;
 
 /// The programs by name, with what each prints.
-pub fn outputs() -> [(&'static str, String); 5] {
+pub fn outputs() -> [(&'static str, String); 6] {
     [
         ("replay_hsv", pixels()),
         ("replay_planes", planes()),
         ("replay_edges", edges()),
         ("replay_filter", crate::replay_filter::lines()),
-        ("replay_content", content()),
+        ("replay_content", batches::<content::Detector>(|c| c % 24 + 1)),
+        ("replay_adaptive", adaptive()),
     ]
 }
 
@@ -209,16 +214,59 @@ fn windows() -> u32 {
     digest.value()
 }
 
-/// Lists of content calls, 256 to a batch.
-fn content() -> String {
+/// Bytes that a replay has room for. What a list writes past them is left out.
+const ROOM: usize = 160_000;
+
+/// Lists of calls, 256 to a batch, of as many calls as `count` says.
+fn batches<D: Listed>(count: fn(usize) -> usize) -> String {
     let mut out = String::new();
     let mut generator = Generator(0);
     for batch in 0..80 {
         let mut digest = Digest::new();
         for c in 0..256 {
-            digest.bytes(&lists::run::<content::Detector>(&generator.shades((c % 24 + 2) * lists::RECORD, 0)).0);
+            let (bytes, _) = lists::run::<D>(&generator.shades((count(c) + 1) * lists::RECORD, 0));
+            digest.bytes(&bytes[..bytes.len().min(ROOM)]);
         }
         writeln!(out, "lists {batch} {}", digest.value()).unwrap();
     }
     out
+}
+
+/// Lists of adaptive calls, then document 01's sample rows and an average of exactly 1e-5.
+fn adaptive() -> String {
+    let mut out = batches::<adaptive::Detector>(|c| if c % 64 == 63 { 240 } else { c % 24 + 1 });
+    let luma = LUMA_ONLY_WEIGHTS;
+    let exact = Components::new(99999.0, 0.0, 1.0, 0.0);
+    let below = Components::new(100000.0, 0.0, 1.0, 0.0);
+    for (name, least, weights, bytes) in [
+        ("scores_1_30_1", 15, luma, [0, 1, 31, 32]),
+        ("scores_0_30_0", 15, luma, [0, 0, 30, 30]),
+        ("scores_0_10_0", 15, luma, [0, 0, 10, 10]),
+        ("average_1e-5", 0, exact, [10, 11, 11, 12]),
+        ("average_below", 0, below, [10, 11, 11, 12]),
+    ] {
+        writeln!(out, "{name} {least} {}", ratio(least, weights, bytes)).unwrap();
+    }
+    for window in [64, 65] {
+        let options = adaptive::Options::new().with_window_width(window).with_simd(false);
+        writeln!(out, "window {window} {}", adaptive_lists::settled(options).0).unwrap();
+    }
+    out
+}
+
+/// The last ratio after luma frames of 1 x 1, window 1. It is a whole number here.
+fn ratio(least: u32, weights: Components, luma: [u8; 4]) -> u32 {
+    let options = adaptive::Options::new()
+        .with_window_width(1)
+        .with_weights(weights)
+        .with_min_content_val(least as f64)
+        .with_simd(false);
+    let mut detector = adaptive::Detector::new(options);
+    for byte in luma {
+        let stamp = Timestamp::from_micros(0);
+        detector.process_luma(LumaFrame::try_new(&[byte], 1, 1, 1, stamp).expect("a whole frame"));
+    }
+    let ratio = detector.last_adaptive_ratio().expect("a full window");
+    assert!(ratio == ratio.trunc() && ratio <= 255.0);
+    ratio as u32
 }
