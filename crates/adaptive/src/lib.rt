@@ -326,8 +326,9 @@ pub fn clear(d: Detector) -> Answer
     }
     let o = d.options;
     let was = d.stream;
+    let full = d.window;
     let cleared = stream::fresh_stream(was.width, was.height);
-    let emptied = window::new();
+    let emptied = window::clear(full);
     without_score(
         Detector {
             options: o,
@@ -367,11 +368,12 @@ pub fn step(d: Detector, width: u32, height: u32, ts: Timestamp, sums: Sums) -> 
             components: deltas,
         };
     }
+    let held = kept;
     without_score(
         Detector {
             options: o,
             stream: s,
-            window: kept,
+            window: held,
         },
         0,
     )

@@ -20,18 +20,22 @@ use Rattle.window.specs.declared.WindowOptions.{WindowOptions}
 use Rattle.window.specs.declared.Window.{Window}
 use Rattle.window.specs.declared.WindowStep.{WindowStep}
 
--- "129 stamps and 129 scores, all zero at the start, with a count"
-unfoldable pub fresh : Window
-fresh =
+-- no scores, and cuts count from this stamp
+abbrev pub emptyFrom : MaybeTimestamp → Window
+emptyFrom last =
     record {
       stamps = replicate 129 (pos 0);
       scores = replicate 129 (float 0);
       count = 0;
       «buffer_sum» = float 0;
-      «last_cut_ts» = None;
+      «last_cut_ts» = last;
       «last_adaptive_ratio» = score.None;
       «last_target_score» = score.None;
     }
+
+-- "129 stamps and 129 scores, all zero at the start, with a count"
+unfoldable pub fresh : Window
+fresh = emptyFrom None
 
 -- the window stays as it is, and there is no cut
 abbrev pub unchanged : Window → WindowStep

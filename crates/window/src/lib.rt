@@ -4,7 +4,7 @@ ghost use mathlib.Core.Path.{_≡_};
 ghost use Prim.Native.Nat.{_+_, _*_, _<_, _≤_};
 ghost use lib.ListN.{length};
 ghost use Rattle.filter.specs.Flash.{flashFilter};
-ghost use Rattle.window.specs.Window.{fresh, canHold, withoutOldest, pushed, average, capped, ratioOf, thresholdMet, suppressing, countedFrom, judged, pushAndCheck};
+ghost use Rattle.window.specs.Window.{emptyFrom, fresh, canHold, withoutOldest, pushed, average, capped, ratioOf, thresholdMet, suppressing, countedFrom, judged, pushAndCheck};
 use filter::Filter;
 use filter::FilterMode;
 use filter::FilterOptions;
@@ -44,9 +44,9 @@ pub struct WindowStep {
 // No ratio is larger.
 const MAX_RATIO: f64 = 255.0;
 
-// The window of a detector that has no scored frame yet, also after `clear`.
-pub fn new() -> Window
-    ensures { λ r. ⌜ r ≡ fresh ⌝ }
+// A window without scores, whose cuts count from here.
+fn empty(last_cut_ts: MaybeTimestamp) -> Window
+    ensures { λ r. ⌜ r ≡ emptyFrom «last_cut_ts» ⌝ }
 {
     let stamps = [0i64; 129];
     let scores = [0.0f64; 129];
@@ -55,10 +55,17 @@ pub fn new() -> Window
         scores: scores,
         count: 0,
         buffer_sum: 0.0,
-        last_cut_ts: MaybeTimestamp::None,
+        last_cut_ts: last_cut_ts,
         last_adaptive_ratio: MaybeScore::None,
         last_target_score: MaybeScore::None,
     }
+}
+
+// The window of a detector that has no scored frame yet.
+pub fn new() -> Window
+    ensures { λ r. ⌜ r ≡ fresh ⌝ }
+{
+    empty(MaybeTimestamp::None)
 }
 
 // Places 1 to n move one place down.
@@ -228,9 +235,10 @@ pub fn push_and_check(o: WindowOptions, s: Window, ts: Timestamp, score: f64) ->
     }
 }
 
-// All is as at the start.
+// All is as at the start: the last cut goes too.
 pub fn clear(s: Window) -> Window
     ensures { λ r. ⌜ r ≡ fresh ⌝ }
 {
-    new()
+    let last = MaybeTimestamp::None;
+    empty(last)
 }

@@ -1,5 +1,6 @@
 -- `adaptive::clear` meets its contract: refused by 15, or a fresh stream and window.
 use borrow.Author.Needs.{needs}
+use mathlib.Core.Path.{sym}
 use Rattle.adaptive.specs.State.{clearedAnswer}
 use Rattle.adaptive.proofs.clear.Statement.{statement}
 use Rattle.adaptive.proofs.clear.Tie as tie
@@ -17,15 +18,15 @@ returns c = rw (c .without-score .ensures, ← c .before .before .is-bad .ensure
 fresh-stream-requires : tie.Need-fresh-stream-requires
 fresh-stream-requires c κs = search needs
 
-new-requires : tie.Need-new-requires
-new-requires c κs = search needs
+clear-requires : tie.Need-clear-requires
+clear-requires c κs = search needs
 
 without-score-requires-2 : tie.Need-without-score-requires-2
 without-score-requires-2 c κs = search needs
 
 returns-2 : tie.Need-returns-2
 unfolding clearedAnswer
-returns-2 c = rw (c .without-score2 .ensures, c .before .new .ensures, c .before .before .fresh-stream .ensures, ← c .before .before .before .before .before .before .is-bad .ensures, c .before .before .before .before .before .if1 .left)
+returns-2 c = simp (c .without-score2 .ensures, c .before .clear .ensures, c .before .before .fresh-stream .ensures, sym (c .before .before .before .before .before .before .before .is-bad .ensures), c .before .before .before .before .before .before .if1 .left)
 
 pub clear-spec : {M : Type 1} → statement M
 clear-spec =
@@ -35,6 +36,6 @@ clear-spec =
     without-score-requires
     returns
     fresh-stream-requires
-    new-requires
+    clear-requires
     without-score-requires-2
     returns-2)

@@ -1,13 +1,15 @@
--- `window::new` meets its contract. Assumes nothing.
-use mathlib.Core.Path.{refl}
-use lib.Ieee.{ofInt, ofBits}
+-- `window::new` meets its contract: nothing is left of a window.
+use borrow.Author.Needs.{needs}
 use Rattle.window.specs.Window.{fresh}
 use Rattle.window.proofs.new.Statement.{statement}
 use Rattle.window.proofs.new.Tie as tie
 
+empty-requires : tie.Need-empty-requires
+empty-requires c κs = search needs
+
 returns : tie.Need-returns
-unfolding fresh ofInt ofBits
-returns c = refl
+unfolding fresh
+returns c = c .empty .ensures
 
 pub new-spec : {M : Type 1} → statement M
-new-spec = tie.close (tie.spec returns)
+new-spec = tie.close (tie.spec empty-requires returns)
