@@ -30,6 +30,28 @@ pub trait Listed: Sized {
     fn show(&self, out: &mut Output);
 }
 
+/// The calls, which both detectors have under the same names.
+macro_rules! calls {
+    () => {
+        fn clear(&mut self) {
+            self.clear();
+        }
+
+        fn luma(&mut self, frame: LumaFrame<'_>) -> Option<Timestamp> {
+            self.process_luma(frame)
+        }
+
+        fn bgr(&mut self, frame: RgbFrame<'_>) -> Option<Timestamp> {
+            self.process_bgr(frame)
+        }
+
+        fn hsv(&mut self, frame: HsvFrame<'_>) -> Option<Timestamp> {
+            self.process_hsv(frame)
+        }
+    };
+}
+pub(crate) use calls;
+
 /// What the calls brought, as bytes.
 #[derive(Default)]
 pub struct Output(pub Vec<u8>);
