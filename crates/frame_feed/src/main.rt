@@ -180,28 +180,28 @@ fn show(name: &[u8], number: u32, answer: u32, cut: MaybeTimestamp) {
     }
 }
 
+// A luma frame of that width and stride, and of height 2.
 fn content_luma_shown(
     d: content::Detector,
     plane: &[u8],
     width: u32,
-    stride: u32,
     micros: i64,
     store: &mut [u8],
     scratch: &mut [u8],
     magnitudes: &mut [i32],
 ) -> content::Detector {
     let ts = Timestamp { micros };
-    let fed = content_luma(d, plane, width, 2, stride, ts, store, scratch, magnitudes);
+    let fed = content_luma(d, plane, width, 2, width, ts, store, scratch, magnitudes);
     let a = fed.answer;
     let cut = a.cut;
     show(b"content luma", fed.number, a.number, cut);
     a.detector
 }
 
+// A BGR frame of 2 × 2 pixels.
 fn content_bgr_shown(
     d: content::Detector,
     pixels: &[u8],
-    width: u32,
     stride: u32,
     micros: i64,
     store: &mut [u8],
@@ -209,20 +209,19 @@ fn content_bgr_shown(
     magnitudes: &mut [i32],
 ) -> content::Detector {
     let ts = Timestamp { micros };
-    let fed = content_bgr(d, pixels, width, 2, stride, ts, store, scratch, magnitudes);
+    let fed = content_bgr(d, pixels, 2, 2, stride, ts, store, scratch, magnitudes);
     let a = fed.answer;
     let cut = a.cut;
     show(b"content bgr", fed.number, a.number, cut);
     a.detector
 }
 
+// An HSV frame of 2 × 2 pixels.
 fn content_hsv_shown<'a>(
     d: content::Detector,
     hue: &'a [u8],
     saturation: &'a [u8],
     value: &'a [u8],
-    width: u32,
-    stride: u32,
     micros: i64,
     store: &mut [u8],
     scratch: &mut [u8],
@@ -234,9 +233,9 @@ fn content_hsv_shown<'a>(
         hue,
         saturation,
         value,
-        width,
         2,
-        stride,
+        2,
+        2,
         ts,
         store,
         scratch,
@@ -248,28 +247,28 @@ fn content_hsv_shown<'a>(
     a.detector
 }
 
+// A luma frame of that width and stride, and of height 2.
 fn adaptive_luma_shown(
     d: adaptive::Detector,
     plane: &[u8],
     width: u32,
-    stride: u32,
     micros: i64,
     store: &mut [u8],
     scratch: &mut [u8],
     magnitudes: &mut [i32],
 ) -> adaptive::Detector {
     let ts = Timestamp { micros };
-    let fed = adaptive_luma(d, plane, width, 2, stride, ts, store, scratch, magnitudes);
+    let fed = adaptive_luma(d, plane, width, 2, width, ts, store, scratch, magnitudes);
     let a = fed.answer;
     let cut = a.cut;
     show(b"adaptive luma", fed.number, a.number, cut);
     a.detector
 }
 
+// A BGR frame of 2 × 2 pixels.
 fn adaptive_bgr_shown(
     d: adaptive::Detector,
     pixels: &[u8],
-    width: u32,
     stride: u32,
     micros: i64,
     store: &mut [u8],
@@ -277,20 +276,19 @@ fn adaptive_bgr_shown(
     magnitudes: &mut [i32],
 ) -> adaptive::Detector {
     let ts = Timestamp { micros };
-    let fed = adaptive_bgr(d, pixels, width, 2, stride, ts, store, scratch, magnitudes);
+    let fed = adaptive_bgr(d, pixels, 2, 2, stride, ts, store, scratch, magnitudes);
     let a = fed.answer;
     let cut = a.cut;
     show(b"adaptive bgr", fed.number, a.number, cut);
     a.detector
 }
 
+// An HSV frame of 2 × 2 pixels.
 fn adaptive_hsv_shown<'a>(
     d: adaptive::Detector,
     hue: &'a [u8],
     saturation: &'a [u8],
     value: &'a [u8],
-    width: u32,
-    stride: u32,
     micros: i64,
     store: &mut [u8],
     scratch: &mut [u8],
@@ -302,9 +300,9 @@ fn adaptive_hsv_shown<'a>(
         hue,
         saturation,
         value,
-        width,
         2,
-        stride,
+        2,
+        2,
         ts,
         store,
         scratch,
@@ -316,249 +314,70 @@ fn adaptive_hsv_shown<'a>(
     a.detector
 }
 
-// Planes of 4 bytes and one of 3, as frames of 2 × 2 pixels.
-fn content_lumas(
-    d: content::Detector,
-    dark: &[u8],
-    light: &[u8],
-    short: &[u8],
-    store: &mut [u8],
-    scratch: &mut [u8],
-    magnitudes: &mut [i32],
-) -> content::Detector {
-    let d = content_luma_shown(d, dark, 2, 2, 0, store, scratch, magnitudes);
-    let d = content_luma_shown(d, short, 2, 2, 400000, store, scratch, magnitudes);
-    let d = content_luma_shown(d, light, 4097, 4097, 400000, store, scratch, magnitudes);
-    content_luma_shown(d, light, 2, 2, 400000, store, scratch, magnitudes)
-}
-
-// Pixels of 12 bytes, as frames of 2 × 2 pixels.
-fn content_bgrs(
-    d: content::Detector,
-    dark: &[u8],
-    light: &[u8],
-    store: &mut [u8],
-    scratch: &mut [u8],
-    magnitudes: &mut [i32],
-) -> content::Detector {
-    let d = content_bgr_shown(d, light, 2, 5, 900000, store, scratch, magnitudes);
-    let d = content_bgr_shown(d, light, 2, 6, 1500000, store, scratch, magnitudes);
-    content_bgr_shown(d, dark, 2, 6, 2000000, store, scratch, magnitudes)
-}
-
-// Planes of 4 bytes and one of 3, as frames of 2 × 2 pixels.
-fn content_hsvs<'a>(
-    d: content::Detector,
-    dark: &'a [u8],
-    light: &'a [u8],
-    short: &'a [u8],
-    store: &mut [u8],
-    scratch: &mut [u8],
-    magnitudes: &mut [i32],
-) -> content::Detector {
-    let d = content_hsv_shown(
-        d,
-        dark,
-        short,
-        light,
-        2,
-        2,
-        2500000,
-        store,
-        scratch,
-        magnitudes,
-    );
-    let d = content_hsv_shown(
-        d,
-        dark,
-        light,
-        short,
-        2,
-        2,
-        2500000,
-        store,
-        scratch,
-        magnitudes,
-    );
-    let d = content_hsv_shown(
-        d,
-        dark,
-        dark,
-        dark,
-        2,
-        2,
-        3500000,
-        store,
-        scratch,
-        magnitudes,
-    );
-    content_hsv_shown(
-        d,
-        light,
-        light,
-        light,
-        2,
-        2,
-        4500000,
-        store,
-        scratch,
-        magnitudes,
-    )
-}
-
-// All of them, from a fresh state.
-fn content_run<'a>(
-    dark: &'a [u8],
-    light: &'a [u8],
-    short: &'a [u8],
-    dark_pixels: &[u8],
-    light_pixels: &[u8],
-    store: &mut [u8],
-    scratch: &mut [u8],
-    magnitudes: &mut [i32],
-) {
+// Eleven frames to the content detector: planes of 4 bytes, `few` of 3, and `black` and `grey` pixels of 12.
+fn content_run<'a>(dark: &'a [u8], lit: &'a [u8], few: &'a [u8], black: &[u8], grey: &[u8]) {
+    let mut store = [0u8; 16];
+    let mut work = [0u8; 32];
+    let mut mags = [0i32; 4];
     let settled = content::try_new(content::Options::new());
     let d = settled.detector;
-    let d = content_lumas(d, dark, light, short, store, scratch, magnitudes);
-    let d = content_bgrs(d, dark_pixels, light_pixels, store, scratch, magnitudes);
-    content_hsvs(d, dark, light, short, store, scratch, magnitudes);
-}
-
-// Planes of 4 bytes and one of 3, as frames of 2 × 2 pixels.
-fn adaptive_lumas(
-    d: adaptive::Detector,
-    dark: &[u8],
-    light: &[u8],
-    short: &[u8],
-    store: &mut [u8],
-    scratch: &mut [u8],
-    magnitudes: &mut [i32],
-) -> adaptive::Detector {
-    let d = adaptive_luma_shown(d, dark, 2, 2, 0, store, scratch, magnitudes);
-    let d = adaptive_luma_shown(d, short, 2, 2, 400000, store, scratch, magnitudes);
-    let d = adaptive_luma_shown(d, light, 4097, 4097, 400000, store, scratch, magnitudes);
-    adaptive_luma_shown(d, light, 2, 2, 400000, store, scratch, magnitudes)
-}
-
-// Pixels of 12 bytes, as frames of 2 × 2 pixels.
-fn adaptive_bgrs(
-    d: adaptive::Detector,
-    dark: &[u8],
-    light: &[u8],
-    store: &mut [u8],
-    scratch: &mut [u8],
-    magnitudes: &mut [i32],
-) -> adaptive::Detector {
-    let d = adaptive_bgr_shown(d, light, 2, 5, 900000, store, scratch, magnitudes);
-    let d = adaptive_bgr_shown(d, light, 2, 6, 1500000, store, scratch, magnitudes);
-    adaptive_bgr_shown(d, dark, 2, 6, 2000000, store, scratch, magnitudes)
-}
-
-// Planes of 4 bytes and one of 3, as frames of 2 × 2 pixels.
-fn adaptive_hsvs<'a>(
-    d: adaptive::Detector,
-    dark: &'a [u8],
-    light: &'a [u8],
-    short: &'a [u8],
-    store: &mut [u8],
-    scratch: &mut [u8],
-    magnitudes: &mut [i32],
-) -> adaptive::Detector {
-    let d = adaptive_hsv_shown(
-        d,
-        dark,
-        short,
-        light,
-        2,
-        2,
-        2500000,
-        store,
-        scratch,
-        magnitudes,
-    );
-    let d = adaptive_hsv_shown(
-        d,
-        dark,
-        light,
-        short,
-        2,
-        2,
-        2500000,
-        store,
-        scratch,
-        magnitudes,
-    );
-    let d = adaptive_hsv_shown(
+    let d = content_luma_shown(d, dark, 2, 0, &mut store, &mut work, &mut mags);
+    let d = content_luma_shown(d, few, 2, 400000, &mut store, &mut work, &mut mags);
+    let d = content_luma_shown(d, lit, 4097, 400000, &mut store, &mut work, &mut mags);
+    let d = content_luma_shown(d, lit, 2, 400000, &mut store, &mut work, &mut mags);
+    let d = content_bgr_shown(d, grey, 5, 900000, &mut store, &mut work, &mut mags);
+    let d = content_bgr_shown(d, grey, 6, 1500000, &mut store, &mut work, &mut mags);
+    let d = content_bgr_shown(d, black, 6, 2000000, &mut store, &mut work, &mut mags);
+    let d = content_hsv_shown(d, dark, few, lit, 2500000, &mut store, &mut work, &mut mags);
+    let d = content_hsv_shown(d, dark, lit, few, 2500000, &mut store, &mut work, &mut mags);
+    let d = content_hsv_shown(
         d,
         dark,
         dark,
         dark,
-        2,
-        2,
         3500000,
-        store,
-        scratch,
-        magnitudes,
+        &mut store,
+        &mut work,
+        &mut mags,
     );
-    adaptive_hsv_shown(
-        d,
-        light,
-        light,
-        light,
-        2,
-        2,
-        4500000,
-        store,
-        scratch,
-        magnitudes,
-    )
+    content_hsv_shown(d, lit, lit, lit, 4500000, &mut store, &mut work, &mut mags);
 }
 
-// All of them, from a fresh state.
-fn adaptive_run<'a>(
-    dark: &'a [u8],
-    light: &'a [u8],
-    short: &'a [u8],
-    dark_pixels: &[u8],
-    light_pixels: &[u8],
-    store: &mut [u8],
-    scratch: &mut [u8],
-    magnitudes: &mut [i32],
-) {
+// Eleven frames to the adaptive detector: planes of 4 bytes, `few` of 3, and `black` and `grey` pixels of 12.
+fn adaptive_run<'a>(dark: &'a [u8], lit: &'a [u8], few: &'a [u8], black: &[u8], grey: &[u8]) {
+    let mut store = [0u8; 16];
+    let mut work = [0u8; 32];
+    let mut mags = [0i32; 4];
     let settled = adaptive::try_new(adaptive::Options::new().with_window_width(1));
     let d = settled.detector;
-    let d = adaptive_lumas(d, dark, light, short, store, scratch, magnitudes);
-    let d = adaptive_bgrs(d, dark_pixels, light_pixels, store, scratch, magnitudes);
-    adaptive_hsvs(d, dark, light, short, store, scratch, magnitudes);
+    let d = adaptive_luma_shown(d, dark, 2, 0, &mut store, &mut work, &mut mags);
+    let d = adaptive_luma_shown(d, few, 2, 400000, &mut store, &mut work, &mut mags);
+    let d = adaptive_luma_shown(d, lit, 4097, 400000, &mut store, &mut work, &mut mags);
+    let d = adaptive_luma_shown(d, lit, 2, 400000, &mut store, &mut work, &mut mags);
+    let d = adaptive_bgr_shown(d, grey, 5, 900000, &mut store, &mut work, &mut mags);
+    let d = adaptive_bgr_shown(d, grey, 6, 1500000, &mut store, &mut work, &mut mags);
+    let d = adaptive_bgr_shown(d, black, 6, 2000000, &mut store, &mut work, &mut mags);
+    let d = adaptive_hsv_shown(d, dark, few, lit, 2500000, &mut store, &mut work, &mut mags);
+    let d = adaptive_hsv_shown(d, dark, lit, few, 2500000, &mut store, &mut work, &mut mags);
+    let d = adaptive_hsv_shown(
+        d,
+        dark,
+        dark,
+        dark,
+        3500000,
+        &mut store,
+        &mut work,
+        &mut mags,
+    );
+    adaptive_hsv_shown(d, lit, lit, lit, 4500000, &mut store, &mut work, &mut mags);
 }
 
 fn main() {
     let dark = [0u8; 4];
-    let light = [200u8; 4];
-    let short = [200u8; 3];
-    let dark_pixels = [0u8; 12];
-    let light_pixels = [200u8; 12];
-    let mut store = [0u8; 16];
-    let mut scratch = [0u8; 32];
-    let mut magnitudes = [0i32; 4];
-    content_run(
-        &dark,
-        &light,
-        &short,
-        &dark_pixels,
-        &light_pixels,
-        &mut store,
-        &mut scratch,
-        &mut magnitudes,
-    );
-    adaptive_run(
-        &dark,
-        &light,
-        &short,
-        &dark_pixels,
-        &light_pixels,
-        &mut store,
-        &mut scratch,
-        &mut magnitudes,
-    );
+    let lit = [200u8; 4];
+    let few = [200u8; 3];
+    let black = [0u8; 12];
+    let grey = [200u8; 12];
+    content_run(&dark, &lit, &few, &black, &grey);
+    adaptive_run(&dark, &lit, &few, &black, &grey);
 }

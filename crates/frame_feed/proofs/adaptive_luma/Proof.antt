@@ -21,7 +21,7 @@ use ghost.Atoms.{Atoms, sem}
 use contract.Lifetimes.{Lfts}
 use contract.Monad.{Fun, fact}
 use contract.Running.{givenOf, tables, tablesOf}
-use types.Kit.{Given, Item, Sq, runs, atRet, ‵, raw, given, ⋆, _⊛_, some, later, _$_, _∵_, !, qed, by, move, keep, drop, use1, use2, use3, split, join, pick, learn, rewrite, fsplit, fjoin, feqL, suffices, frame, await, done}
+use types.Kit.{Given, Sq, runs, atRet, ‵, raw, given, ⋆, _⊛_, some, later, _$_, _∵_, !, qed, by, move, keep, drop, use1, use2, use3, split, join, pick, learn, rewrite, fsplit, fjoin, feqL, suffices, frame, await, done}
 use types.Part.{whole, sub, look-in, agg}
 use types.Run.{look, init, stop, hop, fld, from, load, addr, of-opd, and-then, no-more, assigns, land, returns, enter, params1, pass1, pass0}
 use sound.WpLaws.{FmC, fmOf, WpFn-mono}
@@ -70,7 +70,6 @@ use Rattle.adaptive_records.proofs.process_luma as call
 use Rattle.adaptive_records.proofs.process_luma.Symbol as call-def
 use Rattle.adaptive_records.proofs.process_luma.Symbol.{name as #call}
 use Rattle.adaptive_records.proofs.process_luma.Met as call-thm
-use Rattle.frame_feed.specs.declared.AdaptiveFed.{AdaptiveFed}
 use Rattle.frame_feed.proofs.AdaptiveFed as Fed
 use Rattle.frame_feed.proofs.AdaptiveFed.Laws as Fed′
 use Rattle.frame_feed.proofs.adaptive_luma.Key.{name as #fn}
