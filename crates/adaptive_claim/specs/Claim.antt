@@ -1,5 +1,6 @@
--- Demand 3 for lists of adaptive calls, in the words of document 01's second paragraph. A call's own number and whether it is refused are
--- `content_claim`'s, over the call alone: the two detectors take the same calls.
+-- Demand 3 for lists of adaptive calls. Document 01's second paragraph has the words for lists, refused calls and the distance; here the cuts
+-- keep it from clear to clear, whatever the clock does (docs/DECISIONS.md). A call's own number and whether it is refused are `content_claim`'s,
+-- over the call alone: the two detectors take the same calls.
 use mathlib.Core.Path.{_≡_}
 use mathlib.Core.List.{List, [], _∷_}
 use Prim.Native.Nat.{_<_}

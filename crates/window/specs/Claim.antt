@@ -1,4 +1,5 @@
--- Demand 3 for adaptive calls, in the words of document 01's second paragraph: what holds of every list of calls, whatever the clock does.
+-- Demand 3 for adaptive calls: what holds of every list of calls. Document 01's second paragraph has the words for lists, refused calls and the
+-- distance; here the cuts keep it from clear to clear, over changes of size, whatever the clock does (docs/DECISIONS.md).
 -- Everything here is said of the calls and their answers alone, and nothing of the detector's state.
 use mathlib.Core.Path.{_≡_}
 use mathlib.Core.Bool.{Bool, true, false}

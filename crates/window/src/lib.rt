@@ -20,7 +20,7 @@ pub struct WindowOptions {
     // How many scores on either side of the target make its average.
     pub window_width: u32,
     pub min_content_val: f64,
-    // Whether the first target may be a cut.
+    // Whether the seed lies the minimum before the first target, so that this target may be a cut, or at it.
     pub initial_cut: bool,
 }
 
