@@ -1,4 +1,7 @@
 -- Facts on the definitions of specs/, which the functions' proofs cite.
+pub mod Tested
+pub mod Reciprocal
 pub mod Reading
+pub mod ByCases
 pub mod Stored
 pub mod Planes

@@ -3,7 +3,7 @@
 use mathlib.Core.Path.{_≡_}
 use mathlib.Core.Bool.{Bool, true, false, cond}
 use Prim.Native.Nat.{ℕ, _+_, _-_, _*_, _/_, _≤_, _<_, min, max}
-use native.Mathlib.Nat.{div-lt-iff-lt-mul, div-add-mod', mod-lt}
+use native.Mathlib.Nat.{div-lt-iff-lt-mul, div-add-mod', mod-lt, div-zero}
 use native.Mathlib.Decide.{decLt, ℕ-discrete}
 use native.Mathlib.Omega.{arith}
 use lib.Dec.{eqb}
@@ -28,6 +28,25 @@ unfolding rounded
 rounded-le a b n h k =
     let q : (2 * a + b) / (2 * b) < n + 1 = div-lt-iff-lt-mul {k = 2 * b} {x = 2 * a + b} {y = n + 1} (omega arith) .1 (omega arith) in
     omega arith
+
+-- a quotient by 0 is 0, so that a table with 0 there needs no test
+by-zero : (a b : ℕ) → b ≡ 0 → rounded a b ≡ 0
+unfolding rounded
+by-zero a b z = rw z (div-zero (2 * a + 0))
+
+pub or-zero : (a b : ℕ) → rounded a b ≡ cond (eqb b 0) 0 (rounded a b)
+or-zero a b = go (ℕ-discrete b 0)
+  where
+    go : Dec (b ≡ 0) → rounded a b ≡ cond (eqb b 0) 0 (rounded a b)
+    go (yes z) = rw (eq-eqb b 0 z) (by-zero a b z)
+    go (no z) = rw (ne-eqb b 0 z)
+
+pub rounded-most : (a b n : ℕ) → a ≤ n * b → rounded a b ≤ n
+rounded-most a b n k = go (ℕ-discrete b 0)
+  where
+    go : Dec (b ≡ 0) → rounded a b ≤ n
+    go (yes z) = omega (arith, by-zero a b z)
+    go (no z) = rounded-le a b n (omega (arith, z)) k
 
 -- V is at or over each of the three, and each at most D below it
 pub record Spread (b g r v d : ℕ) : Type 0 where

@@ -1,3 +1,4 @@
 -- What the conversion of BGR pixels to HSV has to give.
 pub mod Hsv
+pub mod Reciprocals
 pub mod Rows

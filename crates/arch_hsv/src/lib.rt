@@ -6,6 +6,9 @@ ghost use lib.Dec.{eqb};
 ghost use lib.ListN.{length};
 ghost use Rattle.arch_hsv.specs.Hsv.{rounded, value, delta, degrees, hue, hsvOf, hsvPlanes};
 ghost use Rattle.arch_hsv.specs.Rows.{rowStored};
+ghost use Rattle.arch_hsv.specs.Reciprocals.{Reciprocals};
+
+mod table;
 
 // Hue in half degrees, at most 179; saturation and value to 255.
 pub struct Hsv {
@@ -32,40 +35,50 @@ fn smaller(x: u8, y: u8) -> u8
     y
 }
 
-// a / b to the nearest, halves up.
-fn nearest(a: u32, b: u32) -> u32
-    requires { ⌜ (0 < b) × ((a < 1000000000) × (b < 1000000000)) ⌝ }
+// x where c holds, else y. Both are at hand, so no branch is left: which of them it is changes from pixel to pixel.
+fn pick(c: bool, x: u32, y: u32) -> u32
+    ensures { λ r. ⌜ r ≡ cond c x y ⌝ }
+{
+    if c {
+        return x;
+    }
+    y
+}
+
+fn wide(x: u32) -> u64
+    ensures { λ r. ⌜ (r ≡ x) × (r < 4294967296) ⌝ }
+{
+    x as u64
+}
+
+// a / b to the nearest, halves up, by the reciprocal of 2b; 0 for b = 0.
+fn nearest(t: &[u32; 256], a: u32, b: u8) -> u32
+    requires { ⌜ Reciprocals (now t) ⌝ }
+    requires { ⌜ a ≤ 255 * b ⌝ }
     ensures { λ q. ⌜ q ≡ rounded a b ⌝ }
 {
-    (2 * a + b) / (2 * b)
+    let n = 2 * a + b as u32;
+    (wide(n) * wide(t[b as usize]) / 4294967296) as u32
 }
 
 // S, by V and D.
-fn saturation(v: u8, d: u8) -> u8
+fn saturation(t: &[u32; 256], v: u8, d: u8) -> u8
+    requires { ⌜ Reciprocals (now t) ⌝ }
     requires { ⌜ d ≤ v ⌝ }
     ensures { λ s. ⌜ s ≡ cond (eqb v 0) 0 (rounded (255 * d) v) ⌝ }
 {
-    if v == 0 {
-        return 0;
-    }
-    nearest(255 * d as u32, v as u32) as u8
+    nearest(t, 255 * d as u32, v) as u8
 }
 
-// Hue in degrees, times D, by V and D.
-fn degrees(b: u32, g: u32, r: u32, v: u32, d: u32) -> u32
+// Hue in sixths of the circle, times D, by V and D. Each of the three cases is worked out, and one picked.
+fn sixths(b: u32, g: u32, r: u32, v: u32, d: u32) -> u32
     requires { ⌜ (v ≤ 255) × ((v ≡ value b g r) × (d ≡ delta b g r)) ⌝ }
-    ensures { λ t. ⌜ t ≡ degrees b g r ⌝ }
+    ensures { λ k. ⌜ 60 * k ≡ degrees b g r ⌝ }
 {
-    if v == r {
-        if b <= g {
-            return 60 * (g - b);
-        }
-        return 360 * d - 60 * (b - g);
-    }
-    if v == g {
-        return 120 * d + 60 * b - 60 * r;
-    }
-    240 * d + 60 * r - 60 * g
+    let red = pick(b <= g, 0, 6 * d) + g - b;
+    let green = 2 * d + b - r;
+    let blue = 4 * d + r - g;
+    pick(v == r, red, pick(v == g, green, blue))
 }
 
 // Hue above 179 is 179.
@@ -79,39 +92,47 @@ fn capped(n: u32) -> u8
 }
 
 // H, by V and D.
-fn hue(b: u8, g: u8, r: u8, v: u8, d: u8) -> u8
+fn hue(t: &[u32; 256], b: u8, g: u8, r: u8, v: u8, d: u8) -> u8
+    requires { ⌜ Reciprocals (now t) ⌝ }
     requires { ⌜ (v ≡ value b g r) × (d ≡ delta b g r) ⌝ }
     ensures { λ h. ⌜ h ≡ hue b g r ⌝ }
 {
-    if d == 0 {
-        return 0;
+    let k = sixths(b as u32, g as u32, r as u32, v as u32, d as u32);
+    capped(nearest(t, 30 * k, d))
+}
+
+// One pixel, by a table of reciprocals.
+fn pixel_by(t: &[u32; 256], b: u8, g: u8, r: u8) -> Hsv
+    requires { ⌜ Reciprocals (now t) ⌝ }
+    ensures { λ p. ⌜ p ≡ hsvOf b g r ⌝ }
+{
+    let v = larger(larger(b, g), r);
+    let d = v - smaller(smaller(b, g), r);
+    Hsv {
+        h: hue(t, b, g, r, v, d),
+        s: saturation(t, v, d),
+        v,
     }
-    let t = degrees(b as u32, g as u32, r as u32, v as u32, d as u32);
-    capped(nearest(t, 2 * d as u32))
 }
 
 // One pixel.
 pub fn bgr_to_hsv_pixel(b: u8, g: u8, r: u8) -> Hsv
     ensures { λ p. ⌜ p ≡ hsvOf b g r ⌝ }
 {
-    let v = larger(larger(b, g), r);
-    let d = v - smaller(smaller(b, g), r);
-    Hsv {
-        h: hue(b, g, r, v, d),
-        s: saturation(v, d),
-        v,
-    }
+    let t = table::reciprocals();
+    pixel_by(&t, b, g, r)
 }
 
 // The first w pixels of row, stored from place first of the three planes of n bytes.
-fn bgr_to_hsv_row(out: &mut [u8], row: &[u8], first: usize, n: usize, w: usize)
+fn bgr_to_hsv_row(t: &[u32; 256], out: &mut [u8], row: &[u8], first: usize, n: usize, w: usize)
+    requires { ⌜ Reciprocals (now t) ⌝ }
     requires { ⌜ (length (now out) ≡ 3 * n) × ((first + w ≤ n) × (length (now row) ≡ 3 * w)) ⌝ }
     ensures { λ _. ⌜ now (out .exit) ≡ rowStored (now (out .entry)) (now (row .entry)) first n w ⌝ }
 {
     let mut x = 0;
     while x < w {
         let i = 3 * x;
-        let p = bgr_to_hsv_pixel(row[i], row[i + 1], row[i + 2]);
+        let p = pixel_by(t, row[i], row[i + 1], row[i + 2]);
         let a = first + x;
         out[a] = p.h;
         out[n + a] = p.s;
@@ -126,12 +147,13 @@ pub fn bgr_to_hsv_planes(out: &mut [u8], src: &[u8], w: usize, h: usize, stride:
     requires { ⌜ ((y : ℕ) → y < h → y * stride + 3 * w ≤ length (now src)) ⌝ }
     ensures { λ _. ⌜ now (out .exit) ≡ hsvPlanes (now (src .entry)) w h stride ⌝ }
 {
+    let t = table::reciprocals();
     let n = w * h;
     let mut y = 0;
     while y < h {
         let p = y * stride;
         let q = p + 3 * w;
-        bgr_to_hsv_row(out, &src[p..q], y * w, n, w);
+        bgr_to_hsv_row(&t, out, &src[p..q], y * w, n, w);
         y += 1;
     }
 }

@@ -13,20 +13,23 @@ use Rattle.arch_hsv.proofs.bgr_to_hsv_planes.Statement.{statement}
 use Rattle.arch_hsv.proofs.bgr_to_hsv_planes.Tie as tie
 
 abbrev Inv-loop : tie.InvT-loop
-Inv-loop out₀ src w h stride n y₀ out y = (y ≤ h) × RowsStored src w h stride y out
+Inv-loop out₀ src w h stride t n y₀ out y = (y ≤ h) × RowsStored src w h stride y out
 
 abbrev μ-loop : tie.MeasureT-loop
-μ-loop out₀ src w h stride n y₀ out y = h - y
+μ-loop out₀ src w h stride t n y₀ out y = h - y
+
+reciprocals-requires : tie.Need-reciprocals-requires Inv-loop μ-loop
+reciprocals-requires c κs = tt
 
 mul-n : tie.Need-mul-n Inv-loop μ-loop
 mul-n c = omega arith
 
 loop-holds : tie.Need-loop-holds Inv-loop μ-loop
-loop-holds c = (omega arith, thirds-none (c .before .before .pre .0) (omega arith))
+loop-holds c = (omega arith, thirds-none (c .before .before .before .pre .0) (omega arith))
 
 -- the function's entry, from the loop's body
 abbrev start : tie.In-loop Inv-loop μ-loop → tie.Start Inv-loop μ-loop
-start c = c .before .before .before .before
+start c = c .before .before .before .before .before
 
 -- row y ends within a plane, and its pixels within src
 row : (c : tie.In-loop Inv-loop μ-loop) → let a = start c .args in c .before .loop .y * a .w + a .w ≤ a .w * a .h
@@ -51,18 +54,21 @@ part-bgr-to-hsv-row-start : tie.Need-part-bgr-to-hsv-row-start Inv-loop μ-loop
 part-bgr-to-hsv-row-start c = omega arith
 
 part-bgr-to-hsv-row-end : tie.Need-part-bgr-to-hsv-row-end Inv-loop μ-loop
-part-bgr-to-hsv-row-end c = omega (arith, src-row (c .before))
+part-bgr-to-hsv-row-end c = omega (arith, src-row (c .before .before))
 
 mul-bgr-to-hsv-row : tie.Need-mul-bgr-to-hsv-row Inv-loop μ-loop
-mul-bgr-to-hsv-row c = omega (arith, row (c .before .before))
+mul-bgr-to-hsv-row c = omega (arith, row (c .before .before .before))
 
 bgr-to-hsv-row-requires : tie.Need-bgr-to-hsv-row-requires Inv-loop μ-loop
 bgr-to-hsv-row-requires c κs =
-    let b = c .before .before in
+    let b = c .before .before .before in
     let y = b .before .loop .y in
     let a = start b .args in (
-      b .before .loop .inv .1 .len,
-      (row b, rw (width (y * a .stride) (3 * a .w)) (length-part (y * a .stride) (3 * a .w) (a .src .now) (src-row b))),
+      b .before .before .reciprocals .ensures,
+      (
+        b .before .loop .inv .1 .len,
+        (row b, rw (width (y * a .stride) (3 * a .w)) (length-part (y * a .stride) (3 * a .w) (a .src .now) (src-row b))),
+      ),
     )
 
 add-y : tie.Need-add-y Inv-loop μ-loop
@@ -73,7 +79,7 @@ loop-less c = omega arith
 
 loop-again : tie.Need-loop-again Inv-loop μ-loop
 loop-again c =
-    let b = c .before .before .before .before .before in
+    let b = c .before .before .before .before .before .before in
     let y = b .before .loop .y in
     let a = start b .args in
     let stored = rw (width (y * a .stride) (3 * a .w)) at (c .before .before .bgr-to-hsv-row .ensures) in
@@ -85,7 +91,7 @@ same-length c = omega arith
 returns : tie.Need-returns Inv-loop μ-loop
 unfolding hsvPlanes
 returns c =
-    let a = c .before .before .before .before .args in
+    let a = c .before .before .before .before .before .args in
     thirds-all (c .before .loop .inv .1) (omega (arith, mul-le-mul-right (a .w) (c .loop-test .left)))
 
 pub bgr-to-hsv-planes-spec : {M : Type 1} → statement M
@@ -94,6 +100,7 @@ bgr-to-hsv-planes-spec =
     (tie.spec
     Inv-loop
     μ-loop
+    reciprocals-requires
     mul-n
     loop-holds
     mul-p

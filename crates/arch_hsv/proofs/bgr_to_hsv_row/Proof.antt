@@ -1,4 +1,5 @@
 -- `arch_hsv::bgr_to_hsv_row` meets its contract. The invariant: the pixels before x are stored. Assumes nothing.
+use borrow.Author.Needs.{needs}
 use mathlib.Core.Path.{_≡_, refl, ap, _∙_}
 use Prim.Native.Nat.{_-_, _≤_}
 use native.Mathlib.Omega.{arith}
@@ -9,10 +10,10 @@ use Rattle.arch_hsv.proofs.bgr_to_hsv_row.Statement.{statement}
 use Rattle.arch_hsv.proofs.bgr_to_hsv_row.Tie as tie
 
 abbrev Inv-loop : tie.InvT-loop
-Inv-loop out₀ row first n w x₀ out x = (x ≤ w) × ((length out ≡ length out₀) × (out ≡ rowStored out₀ row first n x))
+Inv-loop t out₀ row first n w x₀ out x = (x ≤ w) × ((length out ≡ length out₀) × (out ≡ rowStored out₀ row first n x))
 
 abbrev μ-loop : tie.MeasureT-loop
-μ-loop out₀ row first n w x₀ out x = w - x
+μ-loop t out₀ row first n w x₀ out x = w - x
 
 loop-holds : tie.Need-loop-holds Inv-loop μ-loop
 unfolding rowStored
@@ -21,25 +22,25 @@ loop-holds c = (omega arith, (refl, refl))
 mul-i : tie.Need-mul-i Inv-loop μ-loop
 mul-i c = omega arith
 
-shared-slice-read-bgr-to-hsv-pixel : tie.Need-shared-slice-read-bgr-to-hsv-pixel Inv-loop μ-loop
-shared-slice-read-bgr-to-hsv-pixel c = omega arith
+shared-slice-read-pixel-by : tie.Need-shared-slice-read-pixel-by Inv-loop μ-loop
+shared-slice-read-pixel-by c = omega arith
 
-add-bgr-to-hsv-pixel : tie.Need-add-bgr-to-hsv-pixel Inv-loop μ-loop
-add-bgr-to-hsv-pixel c = omega arith
+add-pixel-by : tie.Need-add-pixel-by Inv-loop μ-loop
+add-pixel-by c = omega arith
 
-shared-slice-read-bgr-to-hsv-pixel-2 :
-    tie.Need-shared-slice-read-bgr-to-hsv-pixel-2 Inv-loop μ-loop
-shared-slice-read-bgr-to-hsv-pixel-2 c = omega arith
+shared-slice-read-pixel-by-2 :
+    tie.Need-shared-slice-read-pixel-by-2 Inv-loop μ-loop
+shared-slice-read-pixel-by-2 c = omega arith
 
-add-bgr-to-hsv-pixel-2 : tie.Need-add-bgr-to-hsv-pixel-2 Inv-loop μ-loop
-add-bgr-to-hsv-pixel-2 c = omega arith
+add-pixel-by-2 : tie.Need-add-pixel-by-2 Inv-loop μ-loop
+add-pixel-by-2 c = omega arith
 
-shared-slice-read-bgr-to-hsv-pixel-3 :
-    tie.Need-shared-slice-read-bgr-to-hsv-pixel-3 Inv-loop μ-loop
-shared-slice-read-bgr-to-hsv-pixel-3 c = omega arith
+shared-slice-read-pixel-by-3 :
+    tie.Need-shared-slice-read-pixel-by-3 Inv-loop μ-loop
+shared-slice-read-pixel-by-3 c = omega arith
 
-bgr-to-hsv-pixel-requires : tie.Need-bgr-to-hsv-pixel-requires Inv-loop μ-loop
-bgr-to-hsv-pixel-requires c κs = tt
+pixel-by-requires : tie.Need-pixel-by-requires Inv-loop μ-loop
+pixel-by-requires c κs = search needs
 
 add-a : tie.Need-add-a Inv-loop μ-loop
 add-a c = omega arith
@@ -74,7 +75,7 @@ loop-again c =
       omega arith,
       (
         simp length-set (t .loop .inv .1 .0),
-        stored-more _ _ _ _ _ _ _ (t .loop .inv .1 .1) (c .bgr-to-hsv-pixel .ensures),
+        stored-more _ _ _ _ _ _ _ (t .loop .inv .1 .1) (c .pixel-by .ensures),
       ),
     )
 
@@ -96,12 +97,12 @@ bgr-to-hsv-row-spec =
     μ-loop
     loop-holds
     mul-i
-    shared-slice-read-bgr-to-hsv-pixel
-    add-bgr-to-hsv-pixel
-    shared-slice-read-bgr-to-hsv-pixel-2
-    add-bgr-to-hsv-pixel-2
-    shared-slice-read-bgr-to-hsv-pixel-3
-    bgr-to-hsv-pixel-requires
+    shared-slice-read-pixel-by
+    add-pixel-by
+    shared-slice-read-pixel-by-2
+    add-pixel-by-2
+    shared-slice-read-pixel-by-3
+    pixel-by-requires
     add-a
     slice-write-out
     add-out

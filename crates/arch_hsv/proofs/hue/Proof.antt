@@ -1,45 +1,32 @@
 -- `arch_hsv::hue` meets its contract. Assumes nothing.
 use borrow.Author.Needs.{needs}
-use borrow.Author.Tests.{eq-eqb, ne-eqb}
-use mathlib.Core.Path.{_≡_, sym, _∙_}
-use Prim.Native.Nat.{ℕ, _*_, min}
+use Prim.Native.Nat.{_*_, _≤_}
 use native.Mathlib.Omega.{arith}
-use Rattle.arch_hsv.specs.Hsv.{rounded, delta, degrees, hue}
 use Rattle.arch_hsv.proofs.Reading.{degrees-le}
+use Rattle.arch_hsv.proofs.ByCases.{hue-is}
 use Rattle.arch_hsv.proofs.hue.Statement.{statement}
 use Rattle.arch_hsv.proofs.hue.Tie as tie
 
-module _ (b g r d : ℕ) (e : d ≡ delta b g r) where
-  without : d ≡ 0 → 0 ≡ hue b g r
-  unfolding hue
-  without z = simp (eq-eqb _ _ (sym e ∙ z))
+sixths-small : (c : tie.After-sixths) → c .sixths .result ≤ 6 * c .before .args .d
+sixths-small c = let a = c .before .args in omega (arith, degrees-le (a .b) (a .g) (a .r), c .sixths .ensures, c .before .pre .1 .1)
 
-  by-degrees : (d ≡ 0 → ⊥) → (t q : ℕ) → t ≡ degrees b g r → q ≡ rounded t (2 * d) → min 179 q ≡ hue b g r
-  unfolding hue
-  by-degrees n t q et eq = simp (ne-eqb _ _ (λ z. n (e ∙ z)), eq, et, e)
-
-returns : tie.Need-returns
-returns c = without _ _ _ _ (c .before .pre .1) (c .if1 .taken)
-
-degrees-requires : tie.Need-degrees-requires
-degrees-requires c κs = search needs
+sixths-requires : tie.Need-sixths-requires
+sixths-requires c κs = search needs
 
 mul-nearest : tie.Need-mul-nearest
-mul-nearest c = search needs
+mul-nearest c = omega (arith, sixths-small c)
 
 nearest-requires : tie.Need-nearest-requires
-nearest-requires c κs = let a = c .before .before .args in omega (arith, degrees-le (a .b) (a .g) (a .r))
+nearest-requires c κs = (c .before .pre .0, omega (arith, sixths-small c))
 
 capped-requires : tie.Need-capped-requires
 capped-requires c κs = search needs
 
-returns-2 : tie.Need-returns-2
-returns-2 c =
-    let t = c .before .before in
-    c .capped .ensures
-    ∙ by-degrees _ _ _ _ (t .before .before .pre .1) (t .before .if1 .left) _ _ (t .degrees .ensures) (c .before .nearest .ensures)
+returns : tie.Need-returns
+returns c =
+    let k = c .before .before in
+    hue-is _ _ _ _ (k .before .pre .1 .1) _ _ _ (k .sixths .ensures) (c .before .nearest .ensures) (c .capped .ensures)
 
 pub hue-spec : {M : Type 1} → statement M
 hue-spec =
-    tie.close
-    (tie.spec returns degrees-requires mul-nearest nearest-requires capped-requires returns-2)
+    tie.close (tie.spec sixths-requires mul-nearest nearest-requires capped-requires returns)

@@ -1,12 +1,12 @@
--- `arch_hsv::bgr_to_hsv_pixel` meets its contract. Assumes nothing.
+-- `arch_hsv::pixel_by` meets its contract. Assumes nothing.
 use borrow.Author.Needs.{needs}
 use mathlib.Core.Path.{_≡_}
 use mathlib.Core.Bool.{cond}
 use Prim.Native.Nat.{ℕ, _-_, _*_, min, max}
 use lib.Dec.{eqb}
 use Rattle.arch_hsv.specs.Hsv.{rounded, value, delta, saturation, hue, hsvOf}
-use Rattle.arch_hsv.proofs.bgr_to_hsv_pixel.Statement.{statement}
-use Rattle.arch_hsv.proofs.bgr_to_hsv_pixel.Tie as tie
+use Rattle.arch_hsv.proofs.pixel_by.Statement.{statement}
+use Rattle.arch_hsv.proofs.pixel_by.Tie as tie
 
 module _ (b g r x y v m : ℕ) (ex : x ≡ max b g) (ev : v ≡ max x r) (ey : y ≡ min b g) (em : m ≡ min y r) where
   value-is : v ≡ value b g r
@@ -41,8 +41,11 @@ hue-requires c κs =
     let s = c .before in
     let v = s .before in
     let ex = v .before .larger .ensures in (
-      value-is _ _ _ _ _ _ _ ex (v .larger2 .ensures) (s .smaller .ensures) (c .smaller2 .ensures),
-      delta-is _ _ _ _ _ _ _ ex (v .larger2 .ensures) (s .smaller .ensures) (c .smaller2 .ensures),
+      v .before .before .pre,
+      (
+        value-is _ _ _ _ _ _ _ ex (v .larger2 .ensures) (s .smaller .ensures) (c .smaller2 .ensures),
+        delta-is _ _ _ _ _ _ _ ex (v .larger2 .ensures) (s .smaller .ensures) (c .smaller2 .ensures),
+      ),
     )
 
 saturation-requires : tie.Need-saturation-requires
@@ -56,8 +59,8 @@ returns c =
     hsv-is _ _ _ _ _ _ _ (v .before .larger .ensures) (v .larger2 .ensures) (s .smaller .ensures) (m .smaller2 .ensures) _ _
     (c .before .hue .ensures) (c .saturation .ensures)
 
-pub bgr-to-hsv-pixel-spec : {M : Type 1} → statement M
-bgr-to-hsv-pixel-spec =
+pub pixel-by-spec : {M : Type 1} → statement M
+pixel-by-spec =
     tie.close
     (tie.spec
     larger-requires

@@ -1,0 +1,74 @@
+-- `arch_hsv::sixths` meets its contract. Assumes nothing.
+use borrow.Author.Needs.{needs}
+use Prim.Native.Nat.{_+_, _*_, _≤_}
+use native.Mathlib.Omega.{arith}
+use Rattle.arch_hsv.proofs.Reading.{Spread, spread}
+use Rattle.arch_hsv.proofs.ByCases.{pick-red, sixths-is}
+use Rattle.arch_hsv.proofs.sixths.Statement.{statement}
+use Rattle.arch_hsv.proofs.sixths.Tie as tie
+
+near : (c : tie.Start) → let a = c .args in Spread (a .b) (a .g) (a .r) (a .v) (a .d)
+near c = rw (c .pre .1 .0, c .pre .1 .1) (spread _ _ _)
+
+red-in : (c : tie.After-pick) → let a = c .before .args in (c .pick .result ≤ 6 * a .d) × (a .b ≤ c .pick .result + a .g)
+red-in c = let a = c .before .args in pick-red (a .b) (a .g) (a .d) _ (omega (arith, near (c .before))) (c .pick .ensures)
+
+mul-pick : tie.Need-mul-pick
+mul-pick c = omega (arith, near c)
+
+pick-requires : tie.Need-pick-requires
+pick-requires c κs = search needs
+
+add-red : tie.Need-add-red
+add-red c = omega (arith, near (c .before), red-in c)
+
+sub-red : tie.Need-sub-red
+sub-red c = omega (arith, near (c .before), red-in c)
+
+mul-green : tie.Need-mul-green
+mul-green c = omega (arith, near (c .before))
+
+add-green : tie.Need-add-green
+add-green c = omega (arith, near (c .before))
+
+sub-green : tie.Need-sub-green
+sub-green c = omega (arith, near (c .before))
+
+mul-blue : tie.Need-mul-blue
+mul-blue c = omega (arith, near (c .before))
+
+add-blue : tie.Need-add-blue
+add-blue c = omega (arith, near (c .before))
+
+sub-blue : tie.Need-sub-blue
+sub-blue c = omega (arith, near (c .before))
+
+pick-requires-2 : tie.Need-pick-requires-2
+pick-requires-2 c κs = search needs
+
+pick-requires-3 : tie.Need-pick-requires-3
+pick-requires-3 c κs = search needs
+
+returns : tie.Need-returns
+returns c =
+    let p = c .before in
+    let s = p .before .before in
+    sixths-is _ _ _ _ _ (s .pre .1 .0) (s .pre .1 .1) _ _ _ (p .before .pick .ensures) (p .pick2 .ensures) (c .pick3 .ensures)
+
+pub sixths-spec : {M : Type 1} → statement M
+sixths-spec =
+    tie.close
+    (tie.spec
+    mul-pick
+    pick-requires
+    add-red
+    sub-red
+    mul-green
+    add-green
+    sub-green
+    mul-blue
+    add-blue
+    sub-blue
+    pick-requires-2
+    pick-requires-3
+    returns)
