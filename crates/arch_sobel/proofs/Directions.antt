@@ -1,23 +1,13 @@
--- `dirOf` by the tests that `direction` makes: ax and ay are the sizes, sx and sy the signs.
+-- `dirOf` by the picks that `direction` makes: ax and ay are the sizes, sx and sy the signs.
 use mathlib.Core.Path.{_≡_}
-use Prim.Native.Nat.{ℕ, _*_, _<_, _≤_}
+use mathlib.Core.Bool.{cond}
+use Prim.Native.Nat.{ℕ, _*_}
+use lib.Dec.{ltb, eqb}
 use lib.IntN.{ℤ, natAbs}
-use borrow.Author.Tests.{lt-ltb, le-ltb, eq-eqb, ne-eqb}
 use Rattle.arch_sobel.specs.Sobel.{signOf, dirOf}
 
-module _ (gx gy : ℤ) (ax ay : ℕ) (ex : ax ≡ natAbs gx) (ey : ay ≡ natAbs gy) where
-  pub along : 1000 * ay < 414 * ax → 0 ≡ dirOf gx gy
-  unfolding dirOf
-  along h = simp (← ex, ← ey, lt-ltb _ _ h)
-
-  pub across : 414 * ax ≤ 1000 * ay → 2414 * ax < 1000 * ay → 2 ≡ dirOf gx gy
-  unfolding dirOf
-  across h k = simp (← ex, ← ey, le-ltb _ _ h, lt-ltb _ _ k)
-
-  pub same : 414 * ax ≤ 1000 * ay → 1000 * ay ≤ 2414 * ax → signOf gx ≡ signOf gy → 1 ≡ dirOf gx gy
-  unfolding dirOf
-  same h k e = simp (← ex, ← ey, le-ltb _ _ h, le-ltb _ _ k, eq-eqb _ _ e)
-
-  pub other : 414 * ax ≤ 1000 * ay → 1000 * ay ≤ 2414 * ax → (signOf gx ≡ signOf gy → ⊥) → 3 ≡ dirOf gx gy
-  unfolding dirOf
-  other h k e = simp (← ex, ← ey, le-ltb _ _ h, le-ltb _ _ k, ne-eqb _ _ e)
+pub by-picks : (gx gy : ℤ) (ax ay sx sy slant steep r : ℕ) → ax ≡ natAbs gx → ay ≡ natAbs gy → sx ≡ signOf gx → sy ≡ signOf gy
+    → slant ≡ cond (eqb sx sy) 1 3 → steep ≡ cond (ltb (2414 * ax) (1000 * ay)) 2 slant → r ≡ cond (ltb (1000 * ay) (414 * ax)) 0 steep
+    → r ≡ dirOf gx gy
+unfolding dirOf
+by-picks gx gy ax ay sx sy slant steep r ex ey fx fy e₁ e₂ e₃ = rw (e₃, e₂, e₁, ex, ey, fx, fy)

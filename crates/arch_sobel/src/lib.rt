@@ -1,10 +1,12 @@
 // The Sobel operator over a plane of bytes, `sobel` of arch.rs.
 ghost use mathlib.Core.Path.{_≡_};
+ghost use mathlib.Core.Bool.{cond};
 ghost use Prim.Native.Nat.{ℕ, _+_, _-_, _*_, _<_, _≤_};
 ghost use lib.IntN.{ℤ, pos, natAbs};
 ghost use lib.ListN.{length};
 ghost use Rattle.laws.specs.Lists.{tabulate};
 ghost use Rattle.arch_sobel.specs.Sobel.{px, smoothCol, smoothRow, gradX, gradY, signOf, dirOf, inner, magAt, dirAt, sobelMag, sobelDir};
+ghost use Rattle.arch_sobel.specs.Inner.{Inner};
 
 // The byte at column x of row y.
 fn at(s: &[u8], w: usize, x: usize, y: usize) -> u32
@@ -68,6 +70,16 @@ fn sign(g: i32) -> u8
     0
 }
 
+// x where c holds, else y. Both are at hand, so no branch is left: directions change from pixel to pixel.
+fn pick(c: bool, x: u8, y: u8) -> u8
+    ensures { λ r. ⌜ r ≡ cond c x y ⌝ }
+{
+    if c {
+        return x;
+    }
+    y
+}
+
 // The direction of a gradient, by its sizes and then by its signs.
 fn direction(gx: i32, gy: i32) -> u8
     requires { ⌜ (natAbs gx ≤ 1020) × (natAbs gy ≤ 1020) ⌝ }
@@ -75,16 +87,9 @@ fn direction(gx: i32, gy: i32) -> u8
 {
     let ax = size(gx);
     let ay = size(gy);
-    if 1000 * ay < 414 * ax {
-        return 0;
-    }
-    if 2414 * ax < 1000 * ay {
-        return 2;
-    }
-    if sign(gx) == sign(gy) {
-        return 1;
-    }
-    3
+    let slant = pick(sign(gx) == sign(gy), 1, 3);
+    let steep = pick(2414 * ax < 1000 * ay, 2, slant);
+    pick(1000 * ay < 414 * ax, 0, steep)
 }
 
 // Whether column x of row y has a neighbour on every side. `&` and not `&&`: no branch, and the value is the definition's own.
@@ -101,20 +106,56 @@ struct Edge {
     dir: u8,
 }
 
+// The same at an inner place.
 fn edge_at(s: &[u8], w: usize, h: usize, x: usize, y: usize) -> Edge
-    requires { ⌜ (x < w) × ((y < h) × (length (now s) ≡ w * h)) ⌝ }
+    requires { ⌜ Inner w h x y ⌝ }
+    requires { ⌜ length (now s) ≡ w * h ⌝ }
     ensures { λ r. ⌜ (r .mag ≡ magAt (now (s .entry)) w h x y) × (r .dir ≡ dirAt (now (s .entry)) w h x y) ⌝ }
 {
-    if is_inner(w, h, x, y) {
-        let gx = grad_x(s, w, x, y);
-        let gy = grad_y(s, w, x, y);
-        let m = size(gx) + size(gy);
-        return Edge {
-            mag: m as i32,
-            dir: direction(gx, gy),
-        };
+    let gx = grad_x(s, w, x, y);
+    let gy = grad_y(s, w, x, y);
+    let m = size(gx) + size(gy);
+    Edge {
+        mag: m as i32,
+        dir: direction(gx, gy),
     }
-    Edge { mag: 0, dir: 0 }
+}
+
+// Row y of the two planes, where it is not at the border. Its inner places are written by a loop without a test, which the
+// compiler works several places at a time.
+fn inner_row(s: &[u8], mag: &mut [i32], dir: &mut [u8], w: usize, h: usize, y: usize)
+    requires { ⌜ (1 < w) × ((0 < y) × (y + 1 < h)) ⌝ }
+    requires { ⌜ length (now s) ≡ w * h ⌝ }
+    requires { ⌜ (length (now mag) ≡ w) × (length (now dir) ≡ w) ⌝ }
+    ensures { λ _. ⌜ now (mag .exit) ≡ tabulate w (λ x. magAt (now (s .entry)) w h x y) ⌝ }
+    ensures { λ _. ⌜ now (dir .exit) ≡ tabulate w (λ x. dirAt (now (s .entry)) w h x y) ⌝ }
+{
+    mag[0] = 0;
+    dir[0] = 0;
+    let mut x = 1;
+    while x + 1 < w {
+        let e = edge_at(s, w, h, x, y);
+        let m = e.mag;
+        mag[x] = m;
+        dir[x] = e.dir;
+        x += 1;
+    }
+    mag[x] = 0;
+    dir[x] = 0;
+}
+
+// A row at the border.
+fn border_row(mag: &mut [i32], dir: &mut [u8], w: usize)
+    requires { ⌜ (length (now mag) ≡ w) × (length (now dir) ≡ w) ⌝ }
+    ensures { λ _. ⌜ now (mag .exit) ≡ tabulate w (λ _. pos 0) ⌝ }
+    ensures { λ _. ⌜ now (dir .exit) ≡ tabulate w (λ _. 0) ⌝ }
+{
+    let mut x = 0;
+    while x < w {
+        mag[x] = 0;
+        dir[x] = 0;
+        x += 1;
+    }
 }
 
 // Row y of the two planes.
@@ -124,14 +165,19 @@ fn sobel_row(s: &[u8], mag: &mut [i32], dir: &mut [u8], w: usize, h: usize, y: u
     ensures { λ _. ⌜ now (mag .exit) ≡ tabulate w (λ x. magAt (now (s .entry)) w h x y) ⌝ }
     ensures { λ _. ⌜ now (dir .exit) ≡ tabulate w (λ x. dirAt (now (s .entry)) w h x y) ⌝ }
 {
-    let mut x = 0;
-    while x < w {
-        let e = edge_at(s, w, h, x, y);
-        let m = e.mag;
-        mag[x] = m;
-        dir[x] = e.dir;
-        x += 1;
+    if y == 0 {
+        border_row(mag, dir, w);
+        return;
     }
+    if h <= y + 1 {
+        border_row(mag, dir, w);
+        return;
+    }
+    if w < 2 {
+        border_row(mag, dir, w);
+        return;
+    }
+    inner_row(s, mag, dir, w, h, y);
 }
 
 // The magnitude and the direction of the gradient at each pixel of a plane of w columns and h rows; 0 at the border.

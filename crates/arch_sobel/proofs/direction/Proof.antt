@@ -1,11 +1,25 @@
 use borrow.Author.Needs.{needs}
-use mathlib.Core.Path.{_≡_, _∙_, sym}
+use mathlib.Core.Path.{_≡_}
 use lib.IntN.{natAbs}
 use mir.Facts.{toZ-ofZ}
 use native.Mathlib.Omega.{arith}
-use Rattle.arch_sobel.proofs.Directions.{along, across, same, other}
+use Rattle.arch_sobel.specs.Sobel.{signOf}
+use Rattle.arch_sobel.proofs.Directions.{by-picks}
 use Rattle.arch_sobel.proofs.direction.Statement.{statement}
 use Rattle.arch_sobel.proofs.direction.Tie as tie
+
+-- A signed value reaches a callee's contract as `toZ w32 (ofZ w32 g)`.
+ax-is : (c : tie.After-sign2) → let b = c .before .before in b .before .size .result ≡ natAbs (b .before .before .args .gx)
+ax-is c = let b = c .before .before in rw (toZ-ofZ (b .before .before .fits .gx)) at (b .before .size .ensures)
+
+ay-is : (c : tie.After-sign2) → let b = c .before .before in b .size2 .result ≡ natAbs (b .before .before .args .gy)
+ay-is c = let b = c .before .before in rw (toZ-ofZ (b .before .before .fits .gy)) at (b .size2 .ensures)
+
+sx-is : (c : tie.After-sign2) → c .before .sign .result ≡ signOf (c .before .before .before .before .args .gx)
+sx-is c = rw (toZ-ofZ (c .before .before .before .before .fits .gx)) at (c .before .sign .ensures)
+
+sy-is : (c : tie.After-sign2) → c .sign2 .result ≡ signOf (c .before .before .before .before .args .gy)
+sy-is c = rw (toZ-ofZ (c .before .before .before .before .fits .gy)) at (c .sign2 .ensures)
 
 size-requires : tie.Need-size-requires
 size-requires c κs = search needs
@@ -13,54 +27,38 @@ size-requires c κs = search needs
 size-requires-2 : tie.Need-size-requires-2
 size-requires-2 c κs = search needs
 
--- A signed value reaches a callee's contract as `toZ w32 (ofZ w32 g)`.
-ax-is : (c : tie.After-size2) → c .before .size .result ≡ natAbs (c .before .before .args .gx)
-ax-is c = rw (toZ-ofZ (c .before .before .fits .gx)) at (c .before .size .ensures)
-
-ay-is : (c : tie.After-size2) → c .size2 .result ≡ natAbs (c .before .before .args .gy)
-ay-is c = rw (toZ-ofZ (c .before .before .fits .gy)) at (c .size2 .ensures)
-
-mul-if1 : tie.Need-mul-if1
-mul-if1 c = omega (arith, ay-is c)
-
-mul-if1-2 : tie.Need-mul-if1-2
-mul-if1-2 c = omega (arith, ax-is c)
-
-returns : tie.Need-returns
-returns c = let b = c .before in along _ _ _ _ (ax-is b) (ay-is b) (c .if1 .taken)
-
-mul-if2 : tie.Need-mul-if2
-mul-if2 c = omega (arith, ax-is (c .before))
-
-mul-if2-2 : tie.Need-mul-if2-2
-mul-if2-2 c = omega (arith, ay-is (c .before))
-
-returns-2 : tie.Need-returns-2
-returns-2 c = let b = c .before .before in across _ _ _ _ (ax-is b) (ay-is b) (c .before .if1 .left) (c .if2 .taken)
-
 sign-requires : tie.Need-sign-requires
 sign-requires c κs = search needs
 
 sign-requires-2 : tie.Need-sign-requires-2
 sign-requires-2 c κs = search needs
 
-returns-3 : tie.Need-returns-3
-returns-3 c =
-    let e = c .before .before .before in
-    let b = e .before .before in
-    let s = b .before .before .fits in
-    let sx = rw (toZ-ofZ (s .gx)) at (c .before .before .sign .ensures) in
-    let sy = rw (toZ-ofZ (s .gy)) at (c .before .sign2 .ensures) in
-    same _ _ _ _ (ax-is b) (ay-is b) (e .before .if1 .left) (e .if2 .left) (sym sx ∙ c .if3 .taken ∙ sy)
+pick-requires : tie.Need-pick-requires
+pick-requires c κs = search needs
 
-returns-4 : tie.Need-returns-4
-returns-4 c =
-    let e = c .before .before .before in
-    let b = e .before .before in
-    let s = b .before .before .fits in
-    let sx = rw (toZ-ofZ (s .gx)) at (c .before .before .sign .ensures) in
-    let sy = rw (toZ-ofZ (s .gy)) at (c .before .sign2 .ensures) in
-    other _ _ _ _ (ax-is b) (ay-is b) (e .before .if1 .left) (e .if2 .left) (λ p. c .if3 .left (sx ∙ p ∙ sym sy))
+mul-pick : tie.Need-mul-pick
+mul-pick c = omega (arith, ax-is (c .before))
+
+mul-pick-2 : tie.Need-mul-pick-2
+mul-pick-2 c = omega (arith, ay-is (c .before))
+
+pick-requires-2 : tie.Need-pick-requires-2
+pick-requires-2 c κs = search needs
+
+mul-pick-3 : tie.Need-mul-pick-3
+mul-pick-3 c = omega (arith, ay-is (c .before .before))
+
+mul-pick-4 : tie.Need-mul-pick-4
+mul-pick-4 c = omega (arith, ax-is (c .before .before))
+
+pick-requires-3 : tie.Need-pick-requires-3
+pick-requires-3 c κs = search needs
+
+returns : tie.Need-returns
+returns c =
+    let s = c .before .before .before in
+    let p = c .before .before in
+    by-picks _ _ _ _ _ _ _ _ _ (ax-is s) (ay-is s) (sx-is s) (sy-is s) (p .pick .ensures) (c .before .pick2 .ensures) (c .pick3 .ensures)
 
 pub direction-spec : {M : Type 1} → statement M
 direction-spec =
@@ -68,13 +66,13 @@ direction-spec =
     (tie.spec
     size-requires
     size-requires-2
-    mul-if1
-    mul-if1-2
-    returns
-    mul-if2
-    mul-if2-2
-    returns-2
     sign-requires
     sign-requires-2
-    returns-3
-    returns-4)
+    pick-requires
+    mul-pick
+    mul-pick-2
+    pick-requires-2
+    mul-pick-3
+    mul-pick-4
+    pick-requires-3
+    returns)

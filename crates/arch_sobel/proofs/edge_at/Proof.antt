@@ -1,6 +1,5 @@
 use borrow.Author.Needs.{needs}
-use mathlib.Core.Path.{_≡_, sym, ap, _∙_}
-use mathlib.Core.Bool.{true}
+use mathlib.Core.Path.{_≡_, ap, _∙_}
 use Prim.Native.Nat.{_+_}
 use lib.ListN.{length}
 use lib.IntN.{natAbs}
@@ -8,16 +7,12 @@ use native.Mathlib.Omega.{arith}
 use mir.Syntax.{w32}
 use mir.Val.{toZ, ofZ}
 use Rattle.laws.proofs.Int.{back32, pos32}
-use Rattle.arch_sobel.specs.Sobel.{inner}
-use Rattle.arch_sobel.proofs.Inner.{Within, within, at-inner, at-border}
+use Rattle.arch_sobel.proofs.Inner.{Within, within, is-inner, at-inner}
 use Rattle.arch_sobel.proofs.edge_at.Statement.{statement}
 use Rattle.arch_sobel.proofs.edge_at.Tie as tie
 
-isInner : (c : tie.Then1) → let a = c .before .before .before .args in inner (a .w) (a .h) (a .x) (a .y) ≡ true
-isInner c = sym (c .before .is-inner .ensures) ∙ c .if1 .taken
-
-inIt : (c : tie.Then1) → let a = c .before .before .before .args in Within (a .w) (a .h) (a .x) (a .y) (length (a .s .now))
-inIt c = within _ _ _ _ _ (isInner c) (c .before .before .before .pre .1 .1)
+inIt : (c : tie.Start) → let a = c .args in Within (a .w) (a .h) (a .x) (a .y) (length (a .s .now))
+inIt c = within _ _ _ _ _ (is-inner (c .pre .0)) (c .pre .1)
 
 -- the gradients reach the callees as `toZ w32 (ofZ w32 g)`
 gx-back : (c : tie.After-grad-y) → toZ w32 (ofZ w32 (c .before .grad-x .result)) ≡ c .before .grad-x .result
@@ -32,14 +27,11 @@ ax-is c = rw (gx-back (c .before .before)) at (c .before .size .ensures)
 ay-is : (c : tie.After-size2) → c .size2 .result ≡ natAbs (c .before .before .grad-y .result)
 ay-is c = rw (gy-back (c .before .before)) at (c .size2 .ensures)
 
-is-inner-requires : tie.Need-is-inner-requires
-is-inner-requires c κs = search needs
-
 grad-x-requires : tie.Need-grad-x-requires
-grad-x-requires c κs = let i = inIt c in (i .left, (i .top, (i .right, i .last)))
+grad-x-requires c κs = let i = inIt (c .before) in (i .left, (i .top, (i .right, i .last)))
 
 grad-y-requires : tie.Need-grad-y-requires
-grad-y-requires c κs = let i = inIt (c .before) in (i .left, (i .top, (i .right, i .last)))
+grad-y-requires c κs = let i = inIt (c .before .before) in (i .left, (i .top, (i .right, i .last)))
 
 size-requires : tie.Need-size-requires
 size-requires c κs = search needs
@@ -50,8 +42,8 @@ size-requires-2 c κs = search needs
 add-m : tie.Need-add-m
 add-m c = omega (arith, ax-is c, ay-is c, c .before .before .grad-y .ensures .1, c .before .before .before .grad-x .ensures .1)
 
-cast-t12 : tie.Need-cast-t12
-cast-t12 c = omega (arith, ax-is c, ay-is c, c .before .before .grad-y .ensures .1, c .before .before .before .grad-x .ensures .1)
+cast-t11 : tie.Need-cast-t11
+cast-t11 c = omega (arith, ax-is c, ay-is c, c .before .before .grad-y .ensures .1, c .before .before .before .grad-x .ensures .1)
 
 direction-requires : tie.Need-direction-requires
 direction-requires c κs = search needs
@@ -64,22 +56,17 @@ returns c =
     let q = ay-is t ∙ ap natAbs (g .grad-y .ensures .0) in
     let r = rw (gx-back g, gy-back g, g .before .grad-x .ensures .0, g .grad-y .ensures .0) at (c .direction .ensures) in
     rw (pos32 (t .before .size .result + t .size2 .result) (omega (arith, ax-is t, ay-is t, g .grad-y .ensures .1, g .before .grad-x .ensures .1)))
-    (at-inner _ _ _ _ _ _ _ _ (isInner (g .before .before)) p q r)
-
-returns-2 : tie.Need-returns-2
-returns-2 c = at-border _ _ _ _ _ (sym (c .before .is-inner .ensures) ∙ c .if1 .left)
+    (at-inner _ _ _ _ _ _ _ _ (is-inner (g .before .before .before .pre .0)) p q r)
 
 pub edge-at-spec : {M : Type 1} → statement M
 edge-at-spec =
     tie.close
     (tie.spec
-    is-inner-requires
     grad-x-requires
     grad-y-requires
     size-requires
     size-requires-2
     add-m
-    cast-t12
+    cast-t11
     direction-requires
-    returns
-    returns-2)
+    returns)

@@ -1,71 +1,87 @@
-use mathlib.Core.Path.{_∙_}
-use Prim.Native.Nat.{_≤_, _-_}
-use mir.Syntax.{w32}
-use mir.Facts.{toZ-ofZ}
-use lib.IntN.{pos}
+use borrow.Author.Needs.{needs}
 use native.Mathlib.Omega.{arith}
-use Rattle.laws.proofs.Tab.{Filled, filled-none, filled-more, filled-all}
-use Rattle.arch_sobel.specs.Sobel.{magAt, dirAt}
+use Rattle.arch_sobel.proofs.Inner.{at-top, at-bottom, at-right, border-row}
 use Rattle.arch_sobel.proofs.sobel_row.Statement.{statement}
 use Rattle.arch_sobel.proofs.sobel_row.Tie as tie
 
-abbrev Inv-loop : tie.InvT-loop
-Inv-loop s mag₀ dir₀ w h y x₀ mag dir x = (x ≤ w) × (Filled (pos 0) (λ k. magAt s w h k y) w x mag × Filled 0 (λ k. dirAt s w h k y) w x dir)
+border-row-requires : tie.Need-border-row-requires
+border-row-requires c κs = search needs
 
-abbrev μ-loop : tie.MeasureT-loop
-μ-loop s mag₀ dir₀ w h y x₀ mag dir x = w - x
+same-length : tie.Need-same-length
+same-length c = search needs
 
-loop-holds : tie.Need-loop-holds Inv-loop μ-loop
-loop-holds c = (omega arith, (filled-none _ _ _ _ (c .before .before .pre .1 .0), filled-none _ _ _ _ (c .before .before .pre .1 .1)))
+same-length-2 : tie.Need-same-length-2
+same-length-2 c = search needs
 
-edge-at-requires : tie.Need-edge-at-requires Inv-loop μ-loop
-edge-at-requires c κs = omega arith
+returns : tie.Need-returns
+returns c =
+    let r = c .before .before .before in
+    let a = c .before .before .before .before .before .before .before .before .before .args in
+    border-row (a .s .now) (a .w) (a .h) (a .y) _ _ (λ x b. at-top (a .w) (a .h) x (a .y) (omega arith)) (r .border-row .ensures .0) (r .border-row .ensures .1)
 
-mul-m : tie.Need-mul-m Inv-loop μ-loop
-mul-m c = omega arith
+add-if2 : tie.Need-add-if2
+add-if2 c = search needs
 
-slice-set-from-m : tie.Need-slice-set-from-m Inv-loop μ-loop
-slice-set-from-m c = omega arith
+border-row-requires-2 : tie.Need-border-row-requires-2
+border-row-requires-2 c κs = search needs
 
-slice-write-dir : tie.Need-slice-write-dir Inv-loop μ-loop
-slice-write-dir c = omega arith
+same-length-3 : tie.Need-same-length-3
+same-length-3 c = search needs
 
-add-x : tie.Need-add-x Inv-loop μ-loop
-add-x c = omega arith
+same-length-4 : tie.Need-same-length-4
+same-length-4 c = search needs
 
-loop-less : tie.Need-loop-less Inv-loop μ-loop
-loop-less c = omega arith
+returns-2 : tie.Need-returns-2
+returns-2 c =
+    let r = c .before .before .before in
+    let a = c .before .before .before .before .before .before .before .before .before .before .args in
+    border-row (a .s .now) (a .w) (a .h) (a .y) _ _ (λ x b. at-bottom (a .w) (a .h) x (a .y) (omega arith)) (r .border-row2 .ensures .0) (r .border-row2 .ensures .1)
 
-loop-again : tie.Need-loop-again Inv-loop μ-loop
-loop-again c =
-    let b = c .before .before in
-    let e = c .before .edge-at .ensures in
-    let back = toZ-ofZ {w = w32} (record { sfits = c .struct-told .given .0 .1 }) in
-    (omega arith, (filled-more _ (b .before .loop .inv .1 .0) (b .loop-test .taken) (back ∙ e .0), filled-more _ (b .before .loop .inv .1 .1) (b .loop-test .taken) (e .1)))
+border-row-requires-3 : tie.Need-border-row-requires-3
+border-row-requires-3 c κs = search needs
 
-same-length : tie.Need-same-length Inv-loop μ-loop
-same-length c = omega arith
+same-length-5 : tie.Need-same-length-5
+same-length-5 c = search needs
 
-same-length-2 : tie.Need-same-length-2 Inv-loop μ-loop
-same-length-2 c = omega arith
+same-length-6 : tie.Need-same-length-6
+same-length-6 c = search needs
 
-returns : tie.Need-returns Inv-loop μ-loop
-returns c = (filled-all (c .before .loop .inv .1 .0) (c .loop-test .left), filled-all (c .before .loop .inv .1 .1) (c .loop-test .left))
+returns-3 : tie.Need-returns-3
+returns-3 c =
+    let r = c .before .before .before in
+    let a = c .before .before .before .before .before .before .before .before .before .before .before .args in
+    border-row (a .s .now) (a .w) (a .h) (a .y) _ _ (λ x b. at-right (a .w) (a .h) x (a .y) (omega arith)) (r .border-row3 .ensures .0) (r .border-row3 .ensures .1)
+
+inner-row-requires : tie.Need-inner-row-requires
+inner-row-requires c κs = search needs
+
+same-length-7 : tie.Need-same-length-7
+same-length-7 c = search needs
+
+same-length-8 : tie.Need-same-length-8
+same-length-8 c = search needs
+
+returns-4 : tie.Need-returns-4
+returns-4 c = search needs
 
 pub sobel-row-spec : {M : Type 1} → statement M
 sobel-row-spec =
     tie.close
     (tie.spec
-    Inv-loop
-    μ-loop
-    loop-holds
-    edge-at-requires
-    mul-m
-    slice-set-from-m
-    slice-write-dir
-    add-x
-    loop-less
-    loop-again
+    border-row-requires
     same-length
     same-length-2
-    returns)
+    returns
+    add-if2
+    border-row-requires-2
+    same-length-3
+    same-length-4
+    returns-2
+    border-row-requires-3
+    same-length-5
+    same-length-6
+    returns-3
+    inner-row-requires
+    same-length-7
+    same-length-8
+    returns-4)
