@@ -3,5 +3,6 @@ pub mod Tested
 pub mod Reciprocal
 pub mod Reading
 pub mod ByCases
+pub mod Pixels
 pub mod Stored
 pub mod Planes

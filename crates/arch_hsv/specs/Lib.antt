@@ -2,3 +2,4 @@
 pub mod Hsv
 pub mod Reciprocals
 pub mod Rows
+pub mod Blocks

@@ -1,67 +1,71 @@
 -- `arch_hsv::bgr_to_hsv_row` meets its contract. The invariant: the pixels before x are stored. Assumes nothing.
-use borrow.Author.Needs.{needs}
 use mathlib.Core.Path.{_≡_, refl, ap, _∙_}
-use Prim.Native.Nat.{_-_, _≤_}
+use Prim.Native.Nat.{ℕ, _+_, _-_, _*_, _≤_}
 use native.Mathlib.Omega.{arith}
-use lib.ListN.{length, length-set}
+use lib.ListN.{length, take, drop}
+use Rattle.laws.proofs.Parts.{length-part}
+use Rattle.laws.proofs.Planes.{width}
 use Rattle.arch_hsv.specs.Rows.{rowStored}
-use Rattle.arch_hsv.proofs.Stored.{stored-more}
+use Rattle.arch_hsv.proofs.Pixels.{bounded, block-joined}
 use Rattle.arch_hsv.proofs.bgr_to_hsv_row.Statement.{statement}
 use Rattle.arch_hsv.proofs.bgr_to_hsv_row.Tie as tie
 
 abbrev Inv-loop : tie.InvT-loop
-Inv-loop t out₀ row first n w x₀ out x = (x ≤ w) × ((length out ≡ length out₀) × (out ≡ rowStored out₀ row first n x))
+Inv-loop t out₀ row first n w v₀ d₀ k₀ x₀ out v d k x = (x ≤ w) × ((length v ≡ 256) × ((length d ≡ 256) × ((length k ≡ 256) × ((length out ≡ length out₀) × (out ≡ rowStored out₀ row first n x)))))
 
 abbrev μ-loop : tie.MeasureT-loop
-μ-loop t out₀ row first n w x₀ out x = w - x
+μ-loop t out₀ row first n w v₀ d₀ k₀ x₀ out v d k x = w - x
 
 loop-holds : tie.Need-loop-holds Inv-loop μ-loop
 unfolding rowStored
-loop-holds c = (omega arith, (refl, refl))
+loop-holds c = (omega arith, (refl, (refl, (refl, (refl, refl)))))
 
-mul-i : tie.Need-mul-i Inv-loop μ-loop
-mul-i c = omega arith
+sub-lesser : tie.Need-sub-lesser Inv-loop μ-loop
+sub-lesser c = omega arith
 
-shared-slice-read-pixel-by : tie.Need-shared-slice-read-pixel-by Inv-loop μ-loop
-shared-slice-read-pixel-by c = omega arith
+lesser-requires : tie.Need-lesser-requires Inv-loop μ-loop
+lesser-requires c κs = tt
 
-add-pixel-by : tie.Need-add-pixel-by Inv-loop μ-loop
-add-pixel-by c = omega arith
+mul-p : tie.Need-mul-p Inv-loop μ-loop
+mul-p c = omega arith
 
-shared-slice-read-pixel-by-2 :
-    tie.Need-shared-slice-read-pixel-by-2 Inv-loop μ-loop
-shared-slice-read-pixel-by-2 c = omega arith
+mul-q : tie.Need-mul-q Inv-loop μ-loop
+mul-q c = omega arith
 
-add-pixel-by-2 : tie.Need-add-pixel-by-2 Inv-loop μ-loop
-add-pixel-by-2 c = omega arith
+add-q : tie.Need-add-q Inv-loop μ-loop
+add-q c = omega arith
 
-shared-slice-read-pixel-by-3 :
-    tie.Need-shared-slice-read-pixel-by-3 Inv-loop μ-loop
-shared-slice-read-pixel-by-3 c = omega arith
+sub-measure : tie.Need-sub-measure Inv-loop μ-loop
+sub-measure c = omega arith
 
-pixel-by-requires : tie.Need-pixel-by-requires Inv-loop μ-loop
-pixel-by-requires c κs = search needs
+part-measure-start : tie.Need-part-measure-start Inv-loop μ-loop
+part-measure-start c = omega arith
 
-add-a : tie.Need-add-a Inv-loop μ-loop
-add-a c = omega arith
+part-measure-end : tie.Need-part-measure-end Inv-loop μ-loop
+part-measure-end c = omega arith
 
-slice-write-out : tie.Need-slice-write-out Inv-loop μ-loop
-slice-write-out c = omega arith
+measure-requires : tie.Need-measure-requires Inv-loop μ-loop
+measure-requires c κs =
+    let g = c .before .before .before .before in
+    let l = g .before .before in
+    let i = l .loop .inv .1 in
+    let x = l .loop .x in
+    let m = g .lesser .result in (
+      (omega arith, rw (width (3 * x) (3 * m)) (length-part (3 * x) (3 * m) (l .before .before .before .args .row .now) (omega arith))),
+      (i .0, (i .1 .0, i .1 .1 .0)),
+    )
 
-add-out : tie.Need-add-out Inv-loop μ-loop
-add-out c = omega arith
+add-finish : tie.Need-add-finish Inv-loop μ-loop
+add-finish c = omega arith
 
-slice-write-out-2 : tie.Need-slice-write-out-2 Inv-loop μ-loop
-slice-write-out-2 c = simp length-set (omega arith)
-
-add-out-2 : tie.Need-add-out-2 Inv-loop μ-loop
-add-out-2 c = omega arith
-
-add-out-3 : tie.Need-add-out-3 Inv-loop μ-loop
-add-out-3 c = omega arith
-
-slice-write-out-3 : tie.Need-slice-write-out-3 Inv-loop μ-loop
-slice-write-out-3 c = simp length-set (omega arith)
+finish-requires : tie.Need-finish-requires Inv-loop μ-loop
+finish-requires c κs =
+    let e = c .before .before .before .before .measure .ensures in
+    let l = c .before .before .before .before .before .before .before .before .before .before .before in
+    let s = l .before .before .before in
+    let p = 3 * l .loop .x in
+    let m = c .before .before .before .before .before .before .before .before .before .lesser .result in
+    (s .pre .0, ((omega arith, (l .loop .inv .1 .1 .1 .1 .0 ∙ s .pre .1 .0, omega arith)), bounded (take (p + 3 * m - p) (drop p (s .args .row .now))) (e .0) (e .1 .0) (e .1 .1)))
 
 add-x : tie.Need-add-x Inv-loop μ-loop
 add-x c = omega arith
@@ -71,11 +75,17 @@ loop-less c = omega arith
 
 loop-again : tie.Need-loop-again Inv-loop μ-loop
 loop-again c =
-    let t = c .before .before .before .before .before in (
-      omega arith,
+    let f = c .before .before in
+    let e = c .before .before .before .before .before .before .before .measure .ensures in
+    let g = c .before .before .before .before .before .before .before .before .before .before .before .before in
+    let m = g .lesser .result in
+    let l = g .before .before in
+    let i = l .loop .inv .1 .1 .1 .1 in
+    let part = ap (λ (k : ℕ). take k (drop (3 * l .loop .x) (l .before .before .before .args .row .now))) (width (3 * l .loop .x) (3 * m)) in (
+      omega (arith, g .lesser .ensures, g .before .loop-test .taken),
       (
-        simp length-set (t .loop .inv .1 .0),
-        stored-more _ _ _ _ _ _ _ (t .loop .inv .1 .1) (c .pixel-by .ensures),
+        e .0 .size,
+        (e .1 .0 .size, (e .1 .1 .size, (omega arith, block-joined _ _ _ _ _ _ _ _ _ _ _ _ part (i .1) (e .0) (e .1 .0) (e .1 .1) (f .finish .ensures)))),
       ),
     )
 
@@ -84,10 +94,10 @@ same-length c = omega arith
 
 returns : tie.Need-returns Inv-loop μ-loop
 returns c =
-    let t = c .before in
-    let a = t .before .before .before .args in
-    let e : t .loop .x ≡ a .w = omega arith in
-    t .loop .inv .1 .1 ∙ ap (rowStored (a .out .now) (a .row .now) (a .first) (a .n)) e
+    let l = c .before in
+    let a = l .before .before .before .args in
+    let e : l .loop .x ≡ a .w = omega arith in
+    l .loop .inv .1 .1 .1 .1 .1 ∙ ap (rowStored (a .out .now) (a .row .now) (a .first) (a .n)) e
 
 pub bgr-to-hsv-row-spec : {M : Type 1} → statement M
 bgr-to-hsv-row-spec =
@@ -96,20 +106,17 @@ bgr-to-hsv-row-spec =
     Inv-loop
     μ-loop
     loop-holds
-    mul-i
-    shared-slice-read-pixel-by
-    add-pixel-by
-    shared-slice-read-pixel-by-2
-    add-pixel-by-2
-    shared-slice-read-pixel-by-3
-    pixel-by-requires
-    add-a
-    slice-write-out
-    add-out
-    slice-write-out-2
-    add-out-2
-    add-out-3
-    slice-write-out-3
+    sub-lesser
+    lesser-requires
+    mul-p
+    mul-q
+    add-q
+    sub-measure
+    part-measure-start
+    part-measure-end
+    measure-requires
+    add-finish
+    finish-requires
     add-x
     loop-less
     loop-again

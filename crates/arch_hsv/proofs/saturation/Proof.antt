@@ -1,9 +1,8 @@
 -- `arch_hsv::saturation` meets its contract. Assumes nothing.
 use borrow.Author.Needs.{needs}
-use mathlib.Core.Path.{_∙_}
 use Prim.Native.Nat.{_*_}
 use native.Mathlib.Omega.{arith}
-use Rattle.arch_hsv.proofs.Reading.{rounded-most, or-zero}
+use Rattle.arch_hsv.proofs.Reading.{rounded-most}
 use Rattle.arch_hsv.proofs.saturation.Statement.{statement}
 use Rattle.arch_hsv.proofs.saturation.Tie as tie
 
@@ -19,7 +18,7 @@ cast-result c =
     omega (arith, rounded-most (255 * a .d) (a .v) 255 (omega arith))
 
 returns : tie.Need-returns
-returns c = c .nearest .ensures ∙ or-zero _ _
+returns c = search needs
 
 pub saturation-spec : {M : Type 1} → statement M
 saturation-spec = tie.close (tie.spec mul-nearest nearest-requires cast-result returns)

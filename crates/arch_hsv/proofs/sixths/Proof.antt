@@ -3,7 +3,7 @@ use borrow.Author.Needs.{needs}
 use Prim.Native.Nat.{_+_, _*_, _≤_}
 use native.Mathlib.Omega.{arith}
 use Rattle.arch_hsv.proofs.Reading.{Spread, spread}
-use Rattle.arch_hsv.proofs.ByCases.{pick-red, sixths-is}
+use Rattle.arch_hsv.proofs.ByCases.{pick-red, sixths-is, sixths-le}
 use Rattle.arch_hsv.proofs.sixths.Statement.{statement}
 use Rattle.arch_hsv.proofs.sixths.Tie as tie
 
@@ -53,7 +53,9 @@ returns : tie.Need-returns
 returns c =
     let p = c .before in
     let s = p .before .before in
-    sixths-is _ _ _ _ _ (s .pre .1 .0) (s .pre .1 .1) _ _ _ (p .before .pick .ensures) (p .pick2 .ensures) (c .pick3 .ensures)
+    let a = s .args in
+    let e = sixths-is (a .b) (a .g) (a .r) (a .v) (a .d) (s .pre .1 .0) (s .pre .1 .1) _ _ _ (p .before .pick .ensures) (p .pick2 .ensures) (c .pick3 .ensures) in
+    (e, omega (arith, e, sixths-le (a .b) (a .g) (a .r), near s, s .pre .1 .1))
 
 pub sixths-spec : {M : Type 1} → statement M
 sixths-spec =
