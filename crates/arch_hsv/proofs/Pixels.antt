@@ -5,7 +5,7 @@ use Prim.Native.Nat.{ℕ, zero, suc, _+_, _*_, _≤_, _<_, min}
 use native.Mathlib.Nat.{add-zero, add-suc, add-assoc}
 use native.Mathlib.Numerals.{add-one}
 use native.Mathlib.Omega.{arith}
-use lib.ListN.{length, take, drop, getD, set}
+use lib.ListN.{take, drop, getD, set}
 use Rattle.laws.proofs.Parts.{getD-part}
 use Rattle.laws.proofs.Tab.{Filled}
 use Rattle.arch_hsv.specs.Hsv.{rounded, value, delta}

@@ -26,8 +26,9 @@ slice-write-dir c = omega arith
 loop-holds : tie.Need-loop-holds Inv-loop μ-loop
 loop-holds c =
     let s = c .before .before in
-    let z = at-border _ _ _ 0 _ (at-left (s .args .w) (s .args .h) 0 (s .args .y) refl) in
-    ((omega arith, omega arith), (filled-more _ (filled-none _ _ _ (s .args .mag .now) (s .pre .1 .1 .0)) (omega arith) (z .0), filled-more _ (filled-none _ _ _ (s .args .dir .now) (s .pre .1 .1 .1)) (omega arith) (z .1)))
+    let a = s .args in
+    let z = at-border (a .s .now) (a .w) (a .h) 0 (a .y) (at-left (a .w) (a .h) 0 (a .y) refl) in
+    ((omega arith, omega arith), (filled-more _ (filled-none _ _ _ (a .mag .now) (s .pre .1 .1 .0)) (omega arith) (z .0), filled-more _ (filled-none _ _ _ (a .dir .now) (s .pre .1 .1 .1)) (omega arith) (z .1)))
 
 add-loop : tie.Need-add-loop Inv-loop μ-loop
 add-loop c = omega arith
