@@ -79,7 +79,7 @@ module _ (s : List ℕ) (w h x y : ℕ) where
   at-border e = (simp e, simp e)
 
 -- a row without an inner place is 0
-zeros-are : {A : Type 0} (d : A) (w : ℕ) (f : ℕ → A) (l : List A) → ((x : ℕ) → x < w → d ≡ f x) → l ≡ tabulate w (λ _. d) → l ≡ tabulate w f
+pub zeros-are : {A : Type 0} (d : A) (w : ℕ) (f : ℕ → A) (l : List A) → ((x : ℕ) → x < w → d ≡ f x) → l ≡ tabulate w (λ _. d) → l ≡ tabulate w f
 zeros-are d w f l z e =
     is-tabulate d l w f (ap length e ∙ length-tabulate w _) (λ i h. rw e (getD-tabulate w _ d i h ∙ z i h))
 

@@ -5,7 +5,7 @@ ghost use Prim.Native.Nat.{ℕ, _+_, _-_, _*_, _<_, _≤_};
 ghost use lib.IntN.{ℤ, pos, natAbs};
 ghost use lib.ListN.{length};
 ghost use Rattle.laws.specs.Lists.{tabulate};
-ghost use Rattle.arch_sobel.specs.Sobel.{px, smoothCol, smoothRow, gradX, gradY, signOf, dirOf, inner, magAt, dirAt, sobelMag, sobelDir};
+ghost use Rattle.arch_sobel.specs.Sobel.{px, smoothCol, smoothRow, gradX, gradY, signOf, dirOf, magAt, dirAt, sobelMag, sobelDir};
 ghost use Rattle.arch_sobel.specs.Inner.{Inner};
 
 // The byte at column x of row y.
@@ -90,14 +90,6 @@ fn direction(gx: i32, gy: i32) -> u8
     let slant = pick(sign(gx) == sign(gy), 1, 3);
     let steep = pick(2414 * ax < 1000 * ay, 2, slant);
     pick(1000 * ay < 414 * ax, 0, steep)
-}
-
-// Whether column x of row y has a neighbour on every side. `&` and not `&&`: no branch, and the value is the definition's own.
-pub fn is_inner(w: usize, h: usize, x: usize, y: usize) -> bool
-    requires { ⌜ (x < w) × (y < h) ⌝ }
-    ensures { λ r. ⌜ r ≡ inner w h x y ⌝ }
-{
-    ((0 < x) & (x + 1 < w)) & ((0 < y) & (y + 1 < h))
 }
 
 // What the two planes have at one place.

@@ -1,5 +1,10 @@
--- How far from a place its two neighbours along a direction stand. Only the contract of the private `step` cites it.
+-- The neighbours along a direction, by how far they stand. Only contracts of private functions cite this.
+use mathlib.Core.Bool.{Bool}
+use mathlib.Core.List.{List}
 use Prim.Native.Nat.{ℕ, zero, suc, _+_, _-_}
+use lib.IntN.{ℤ, pos}
+use lib.ListN.{getD}
+use Rattle.canny_thin.specs.Thin.{stays}
 
 -- how many places on one of the two stands, and how many back the other
 unfoldable pub stepOf : ℕ → ℕ → ℕ
@@ -7,3 +12,11 @@ stepOf zero w = 1
 stepOf (suc zero) w = w + 1
 stepOf (suc (suc zero)) w = w
 stepOf (suc (suc (suc d))) w = w - 1
+
+-- whether place i is above 0 and not below the places s on and s back
+abbrev pub staysBy : List ℤ → ℕ → ℕ → Bool
+staysBy mag i s = stays (getD mag i (pos 0)) (getD mag (i + s) (pos 0)) (getD mag (i - s) (pos 0))
+
+-- the same along direction d
+unfoldable pub staysAlong : List ℤ → ℕ → ℕ → ℕ → Bool
+staysAlong mag w d i = staysBy mag i (stepOf d w)

@@ -4,7 +4,8 @@ ghost use mathlib.Core.Bool.{cond};
 ghost use Prim.Native.Nat.{ℕ, _+_, _-_, _*_, _<_, _≤_};
 ghost use lib.ListN.{length, getD};
 ghost use Rattle.laws.specs.Lists.{tabulate};
-ghost use Rattle.canny_thin.specs.Step.{stepOf};
+ghost use Rattle.arch_sobel.specs.Inner.{Inner};
+ghost use Rattle.canny_thin.specs.Step.{staysBy, staysAlong};
 ghost use Rattle.canny_thin.specs.Thin.{stays, classOf, classAt, thinned};
 
 // Whether m is above 0 and below neither a nor b. `&` and not `&&`: no branch, and the value is the definition's own.
@@ -21,13 +22,39 @@ fn bit(b: bool) -> usize
     b as usize
 }
 
-// How many places on the neighbour along a direction stands, and how many back the opposite one, or the other way round for 3:
-// 1, w + 1, w, w - 1. A sum and no branches: directions change from pixel to pixel.
-fn step(dir: u8, w: usize) -> usize
-    requires { ⌜ (0 < w) × (w + 1 < 18446744073709551616) ⌝ }
-    ensures { λ r. ⌜ r ≡ stepOf dir w ⌝ }
+// Whether place i keeps against the places s on and s back.
+fn keeps_by(mag: &[i32], i: usize, s: usize) -> bool
+    requires { ⌜ (s ≤ i) × (i + s < length (now mag)) ⌝ }
+    ensures { λ r. ⌜ r ≡ staysBy (now (mag .entry)) i s ⌝ }
 {
-    bit(0 < dir) * w + bit(dir < 2) - bit(2 < dir)
+    keeps(mag[i], mag[i + s], mag[i - s])
+}
+
+// x where c holds, else y. Both are at hand, so no branch is left: directions change from pixel to pixel.
+fn pick(c: bool, x: bool, y: bool) -> bool
+    ensures { λ r. ⌜ r ≡ cond c x y ⌝ }
+{
+    if c {
+        return x;
+    }
+    y
+}
+
+// Whether place i keeps along its direction. All four are tried, the neighbours being 1, w + 1, w and w - 1 places on and back, and one
+// is picked: so a loop over places has the same reads at each, and the compiler works several at a time.
+fn keeps_along(mag: &[i32], w: usize, dir: u8, i: usize) -> bool
+    requires { ⌜ (0 < w) × ((w + 1 ≤ i) × (i + (w + 1) < length (now mag))) ⌝ }
+    ensures { λ r. ⌜ r ≡ staysAlong (now (mag .entry)) w dir i ⌝ }
+{
+    let across = keeps_by(mag, i, 1);
+    let fall = keeps_by(mag, i, w + 1);
+    let down = keeps_by(mag, i, w);
+    let rise = keeps_by(mag, i, w - 1);
+    pick(
+        dir == 0,
+        across,
+        pick(dir == 1, fall, pick(dir == 2, down, rise)),
+    )
 }
 
 // The class of a pixel that stays, else 0. A sum and no branches.
@@ -39,17 +66,41 @@ fn class_of(stay: bool, m: i32, low: u8, high: u8) -> u8
     (bit(stay & strong) + bit(stay & (strong | weak))) as u8
 }
 
+// At an inner place.
 fn class_at(mag: &[i32], w: usize, h: usize, low: u8, high: u8, dir: u8, x: usize, y: usize) -> u8
-    requires { ⌜ (x < w) × ((y < h) × (length (now mag) ≡ w * h)) ⌝ }
+    requires { ⌜ Inner w h x y ⌝ }
+    requires { ⌜ length (now mag) ≡ w * h ⌝ }
     ensures { λ r. ⌜ r ≡ classAt (now (mag .entry)) w h low high dir x y ⌝ }
 {
-    if arch_sobel::is_inner(w, h, x, y) {
-        let i = y * w + x;
-        let s = step(dir, w);
-        let stay = keeps(mag[i], mag[i + s], mag[i - s]);
-        return class_of(stay, mag[i], low, high);
+    let i = y * w + x;
+    let stay = keeps_along(mag, w, dir, i);
+    class_of(stay, mag[i], low, high)
+}
+
+// Row y, where it is not at the border.
+fn inner_row(mag: &[i32], row: &mut [u8], w: usize, h: usize, low: u8, high: u8, y: usize)
+    requires { ⌜ (1 < w) × ((0 < y) × (y + 1 < h)) ⌝ }
+    requires { ⌜ (length (now mag) ≡ w * h) × (length (now row) ≡ w) ⌝ }
+    ensures { λ _. ⌜ now (row .exit) ≡ tabulate w (λ x. classAt (now (mag .entry)) w h low high (getD (now (row .entry)) x 0) x y) ⌝ }
+{
+    row[0] = 0;
+    let mut x = 1;
+    while x + 1 < w {
+        row[x] = class_at(mag, w, h, low, high, row[x], x, y);
+        x += 1;
     }
-    0
+    row[x] = 0;
+}
+
+// A row at the border.
+fn border_row(row: &mut [u8])
+    ensures { λ _. ⌜ now (row .exit) ≡ tabulate (length (now (row .entry))) (λ _. 0) ⌝ }
+{
+    let mut x = 0;
+    while x < row.len() {
+        row[x] = 0;
+        x += 1;
+    }
 }
 
 // Row y.
@@ -57,11 +108,19 @@ fn class_row(mag: &[i32], row: &mut [u8], w: usize, h: usize, low: u8, high: u8,
     requires { ⌜ (y < h) × ((length (now mag) ≡ w * h) × (length (now row) ≡ w)) ⌝ }
     ensures { λ _. ⌜ now (row .exit) ≡ tabulate w (λ x. classAt (now (mag .entry)) w h low high (getD (now (row .entry)) x 0) x y) ⌝ }
 {
-    let mut x = 0;
-    while x < w {
-        row[x] = class_at(mag, w, h, low, high, row[x], x, y);
-        x += 1;
+    if y == 0 {
+        border_row(row);
+        return;
     }
+    if h <= y + 1 {
+        border_row(row);
+        return;
+    }
+    if w < 2 {
+        border_row(row);
+        return;
+    }
+    inner_row(mag, row, w, h, low, high, y);
 }
 
 // The direction plane becomes the class plane, in place: a pixel's class needs its own direction alone, and the magnitudes around it.

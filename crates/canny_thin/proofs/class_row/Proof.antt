@@ -1,56 +1,73 @@
 -- `canny_thin::class_row` meets its contract. Assumes nothing.
-use Prim.Native.Nat.{_≤_, _-_}
+use borrow.Author.Needs.{needs}
 use native.Mathlib.Omega.{arith}
-use Rattle.laws.proofs.InPlace.{Mapped, mapped-none, mapped-more, mapped-all}
-use Rattle.canny_thin.specs.Thin.{classAt}
+use Rattle.arch_sobel.proofs.Inner.{at-top, at-bottom, at-right}
+use Rattle.canny_thin.proofs.Near.{class-zeros}
 use Rattle.canny_thin.proofs.class_row.Statement.{statement}
 use Rattle.canny_thin.proofs.class_row.Tie as tie
 
-abbrev Inv-loop : tie.InvT-loop
-Inv-loop mag row₀ w h low high y x₀ row x = (x ≤ w) × Mapped 0 (λ k v. classAt mag w h low high v k y) row₀ x row
+border-row-requires : tie.Need-border-row-requires
+border-row-requires c κs = search needs
 
-abbrev μ-loop : tie.MeasureT-loop
-μ-loop mag row₀ w h low high y x₀ row x = w - x
+same-length : tie.Need-same-length
+same-length c = search needs
 
-loop-holds : tie.Need-loop-holds Inv-loop μ-loop
-loop-holds c = (omega arith, mapped-none (omega arith))
+returns : tie.Need-returns
+returns c =
+    let s = c .before .before .before .before .before .before in
+    let a = s .args in
+    class-zeros (a .mag .now) (a .w) (a .h) (a .low) (a .high) (a .y) (a .row .now) _ (s .pre .1 .1) (λ x b. at-top (a .w) (a .h) x (a .y) (omega arith)) (c .before .before .border-row .ensures)
 
-slice-read-class-at : tie.Need-slice-read-class-at Inv-loop μ-loop
-slice-read-class-at c = omega arith
+add-if2 : tie.Need-add-if2
+add-if2 c = search needs
 
-class-at-requires : tie.Need-class-at-requires Inv-loop μ-loop
-class-at-requires c κs = omega arith
+border-row-requires-2 : tie.Need-border-row-requires-2
+border-row-requires-2 c κs = search needs
 
-slice-write-row : tie.Need-slice-write-row Inv-loop μ-loop
-slice-write-row c = omega arith
+same-length-2 : tie.Need-same-length-2
+same-length-2 c = search needs
 
-add-x : tie.Need-add-x Inv-loop μ-loop
-add-x c = omega arith
+returns-2 : tie.Need-returns-2
+returns-2 c =
+    let s = c .before .before .before .before .before .before .before in
+    let a = s .args in
+    class-zeros (a .mag .now) (a .w) (a .h) (a .low) (a .high) (a .y) (a .row .now) _ (s .pre .1 .1) (λ x b. at-bottom (a .w) (a .h) x (a .y) (omega arith)) (c .before .before .border-row2 .ensures)
 
-loop-less : tie.Need-loop-less Inv-loop μ-loop
-loop-less c = omega arith
+border-row-requires-3 : tie.Need-border-row-requires-3
+border-row-requires-3 c κs = search needs
 
-loop-again : tie.Need-loop-again Inv-loop μ-loop
-loop-again c = (omega arith, mapped-more _ (c .before .before .before .loop .inv .1) (omega arith) (c .class-at .ensures))
+same-length-3 : tie.Need-same-length-3
+same-length-3 c = search needs
 
-same-length : tie.Need-same-length Inv-loop μ-loop
-same-length c = c .before .loop .inv .1 .len
+returns-3 : tie.Need-returns-3
+returns-3 c =
+    let s = c .before .before .before .before .before .before .before .before in
+    let a = s .args in
+    class-zeros (a .mag .now) (a .w) (a .h) (a .low) (a .high) (a .y) (a .row .now) _ (s .pre .1 .1) (λ x b. at-right (a .w) (a .h) x (a .y) (omega arith)) (c .before .before .border-row3 .ensures)
 
-returns : tie.Need-returns Inv-loop μ-loop
-returns c = mapped-all (c .before .loop .inv .1) (omega arith) (c .loop-test .left)
+inner-row-requires : tie.Need-inner-row-requires
+inner-row-requires c κs = search needs
+
+same-length-4 : tie.Need-same-length-4
+same-length-4 c = search needs
+
+returns-4 : tie.Need-returns-4
+returns-4 c = search needs
 
 pub class-row-spec : {M : Type 1} → statement M
 class-row-spec =
     tie.close
     (tie.spec
-    Inv-loop
-    μ-loop
-    loop-holds
-    slice-read-class-at
-    class-at-requires
-    slice-write-row
-    add-x
-    loop-less
-    loop-again
+    border-row-requires
     same-length
-    returns)
+    returns
+    add-if2
+    border-row-requires-2
+    same-length-2
+    returns-2
+    border-row-requires-3
+    same-length-3
+    returns-3
+    inner-row-requires
+    same-length-4
+    returns-4)
