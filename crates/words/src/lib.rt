@@ -1,12 +1,12 @@
 // Numbers, doubles, stamps and choices as words of 64 bits, and back: what the records that a station lends are written in. Nothing is
-// asked of a word: each is read as something.
+// asked of a word: each is read as something. What is written reads back.
 ghost use mathlib.Core.Path.{_≡_};
-ghost use mathlib.Core.List.{_++_};
-ghost use Prim.Native.Nat.{_≤_, _%_};
+ghost use mathlib.Core.Bool.{true};
+ghost use Prim.Native.Nat.{_<_, _%_};
 ghost use mir.Syntax.{w64};
 ghost use mir.Val.{ofZ, toZ};
 ghost use lib.Ieee.{binary64, toBits, ofBits};
-ghost use lib.ListN.{length, drop};
+ghost use lib.ListN.{length};
 ghost use Rattle.words.specs.Choices.{flagWord, flagOf, stampTag, stampWord, stampOf, scoreTag, scoreWord, scoreOf, kernelTag, kernelWord, kernelOf, componentsTag, componentsShown, componentsOf, componentsIf};
 ghost use Rattle.words.specs.Stream.{streamWords, isStream, streamOf};
 use score::Components;
@@ -20,6 +20,7 @@ use timestamp::Timestamp;
 // A double's bit pattern. A NaN has one.
 pub fn float_word(x: f64) -> u64
     ensures { λ r. ⌜ r ≡ toBits binary64 x ⌝ }
+    ensures { λ r. ⌜ ofBits binary64 r ≡ x ⌝ }
 {
     if x == x {
         return f64::to_bits(x);
@@ -40,6 +41,7 @@ pub fn float_of(w: u64) -> f64
 // A signed number in two's complement.
 pub fn signed_word(z: i64) -> u64
     ensures { λ r. ⌜ r ≡ ofZ w64 z ⌝ }
+    ensures { λ r. ⌜ toZ w64 r ≡ z ⌝ }
 {
     if z < 0 {
         return 18446744073709551615 - (-1 - z) as u64;
@@ -65,6 +67,7 @@ pub fn short_of(w: u64) -> u32
 
 pub fn flag_word(b: bool) -> u64
     ensures { λ r. ⌜ r ≡ flagWord b ⌝ }
+    ensures { λ r. ⌜ flagOf r ≡ b ⌝ }
 {
     if b {
         return 1;
@@ -90,6 +93,7 @@ pub fn stamp_tag(t: MaybeTimestamp) -> u64
 
 pub fn stamp_word(t: MaybeTimestamp) -> u64
     ensures { λ r. ⌜ r ≡ stampWord t ⌝ }
+    ensures { λ r. ⌜ stampOf (stampTag t) r ≡ t ⌝ }
 {
     match t {
         MaybeTimestamp::None => 0,
@@ -120,6 +124,7 @@ pub fn score_tag(s: MaybeScore) -> u64
 
 pub fn score_word(s: MaybeScore) -> u64
     ensures { λ r. ⌜ r ≡ scoreWord s ⌝ }
+    ensures { λ r. ⌜ scoreOf (scoreTag s) r ≡ s ⌝ }
 {
     match s {
         MaybeScore::None => 0,
@@ -148,6 +153,7 @@ pub fn kernel_tag(k: KernelSize) -> u64
 
 pub fn kernel_word(k: KernelSize) -> u64
     ensures { λ r. ⌜ r ≡ kernelWord k ⌝ }
+    ensures { λ r. ⌜ (kernelOf (kernelTag k) r ≡ k) × (r < 4294967296) ⌝ }
 {
     match k {
         KernelSize::Auto => 0,
@@ -164,10 +170,10 @@ pub fn kernel_of(tag: u64, w: u64) -> KernelSize
     KernelSize::Auto
 }
 
-// src at the start of dst; the places after it keep what they have.
-pub fn put(dst: &mut [u64], src: &[u64])
-    requires { ⌜ length (now src) ≤ length (now dst) ⌝ }
-    ensures { λ _. ⌜ now (dst .exit) ≡ now (src .entry) ++ drop (length (now (src .entry))) (now (dst .entry)) ⌝ }
+// dst becomes src.
+pub fn copy(dst: &mut [u64], src: &[u64])
+    requires { ⌜ length (now dst) ≡ length (now src) ⌝ }
+    ensures { λ _. ⌜ now (dst .exit) ≡ now (src .entry) ⌝ }
 {
     let mut i = 0;
     while i < src.len() {
@@ -224,6 +230,7 @@ pub fn maybe_components(tag: u64, c: Components) -> MaybeComponents
 // What both detectors keep of the stream, in ten words.
 pub fn stream_words(s: Stream) -> [u64; 10]
     ensures { λ r. ⌜ r ≡ streamWords s ⌝ }
+    ensures { λ r. ⌜ (isStream r ≡ true) × (streamOf r ≡ s) ⌝ }
 {
     let last_score = s.last_score;
     let last_components = s.last_components;

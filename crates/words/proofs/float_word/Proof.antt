@@ -1,11 +1,11 @@
 -- `words::float_word` meets its contract: every float but the NaN equals itself.
-use mathlib.Core.Path.{_≡_, refl, sym, subst}
+use mathlib.Core.Path.{_≡_, refl, sym, subst, ap, _∙_}
 use mathlib.Core.Bool.{Bool, true, false, not}
 use Prim.Native.Nat.{ℕ, _*_}
-use borrow.Author.Needs.{needs}
 use borrow.Author.Tests.{eq-eqb}
 use lib.Dec.{T}
-use lib.Ieee.{Float, nan, inf, fin, eq, isNan, toBits, binary64, up, down, level}
+use lib.Ieee.Bits.{ofBits-toBits}
+use lib.Ieee.{Float, nan, inf, fin, eq, isNan, toBits, ofBits, binary64, up, down, level}
 use Rattle.words.proofs.float_word.Statement.{statement}
 use Rattle.words.proofs.float_word.Tie as tie
 
@@ -26,14 +26,17 @@ is-nan (inf true) e = absurd (subst T e tt)
 is-nan (inf false) e = absurd (subst T e tt)
 is-nan (fin s m d) e = absurd (subst T e (subst T (sym (level-self s (m * up d * down d))) tt))
 
+fits-of : (b : Bool) → b ≡ true → T b
+fits-of b e = subst T (sym e) tt
+
 float-to-bits-result : tie.Need-float-to-bits-result
 float-to-bits-result c = no-nan (c .before .args .x) (c .if1 .taken)
 
 returns : tie.Need-returns
-returns c = search needs
+returns c = (refl, ofBits-toBits binary64 (c .before .args .x) (fits-of _ (c .before .good .0 .1)))
 
 returns-2 : tie.Need-returns-2
-returns-2 c = is-nan (c .before .args .x) (c .if1 .left)
+returns-2 c = let e = is-nan (c .before .args .x) (c .if1 .left) in (e, ap (ofBits binary64) e ∙ ofBits-toBits binary64 (c .before .args .x) (fits-of _ (c .before .good .0 .1)))
 
 pub float-word-spec : {M : Type 1} → statement M
 float-word-spec = tie.close (tie.spec float-to-bits-result returns returns-2)

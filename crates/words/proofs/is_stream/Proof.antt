@@ -1,32 +1,25 @@
+-- `words::is_stream` meets its contract.
 use borrow.Author.Needs.{needs}
 use mathlib.Core.Path.{refl}
 use Rattle.words.specs.Stream.{isStream}
 use Rattle.words.proofs.is_stream.Statement.{statement}
 use Rattle.words.proofs.is_stream.Tie as tie
-use Rattle.words.proofs.is_stream.Reads as reads
-use Rattle.words.proofs.is_stream.Lts as lts
 
--- src/lib.rt:247:6
 shared-slice-read-result : tie.Need-shared-slice-read-result
 shared-slice-read-result c = search needs
 
--- src/lib.rt:247:20
 shared-slice-read-result-2 : tie.Need-shared-slice-read-result-2
 shared-slice-read-result-2 c = search needs
 
--- src/lib.rt:247:34
 shared-slice-read-result-3 : tie.Need-shared-slice-read-result-3
 shared-slice-read-result-3 c = search needs
 
--- src/lib.rt:247:48
 shared-slice-read-result-4 : tie.Need-shared-slice-read-result-4
 shared-slice-read-result-4 c = search needs
 
--- src/lib.rt:247:70
 shared-slice-read-result-5 : tie.Need-shared-slice-read-result-5
 shared-slice-read-result-5 c = search needs
 
--- src/lib.rt:243:1
 returns : tie.Need-returns
 unfolding isStream
 returns c = refl

@@ -1,14 +1,11 @@
+-- `words::maybe_components` meets its contract.
 use borrow.Author.Tests.{ne-eqb}
 use Rattle.words.proofs.maybe_components.Statement.{statement}
 use Rattle.words.proofs.maybe_components.Tie as tie
-use Rattle.words.proofs.maybe_components.Reads as reads
-use Rattle.words.proofs.maybe_components.Lts as lts
 
--- src/lib.rt:217:9
 returns : tie.Need-returns
 returns c = rw (c .if1 .taken)
 
--- src/lib.rt:213:1
 returns-2 : tie.Need-returns-2
 returns-2 c = rw (ne-eqb _ 1 (c .if1 .left))
 

@@ -1,20 +1,15 @@
+-- `words::score_of` meets its contract.
 use borrow.Author.Needs.{needs}
 use borrow.Author.Tests.{ne-eqb}
 use Rattle.words.proofs.score_of.Statement.{statement}
 use Rattle.words.proofs.score_of.Tie as tie
-use Rattle.words.proofs.score_of.Reads as reads
-use Rattle.words.proofs.score_of.Lts as lts
-use Rattle.words.proofs.float_of.Reads as float-of-reads
 
--- src/lib.rt:128:33
 float-of-requires : tie.Need-float-of-requires
 float-of-requires c κs = search needs
 
--- src/lib.rt:128:9
 returns : tie.Need-returns
 returns c = rw (c .before .if1 .taken, c .float-of .ensures)
 
--- src/lib.rt:124:1
 returns-2 : tie.Need-returns-2
 returns-2 c = rw (ne-eqb _ 1 (c .if1 .left))
 

@@ -1,12 +1,12 @@
 -- `words::signed_of` meets its contract: a word at or over 2^63 is read as -1 - (2^64 - 1 - w).
 use borrow.Author.Needs.{needs}
-use mathlib.Core.Path.{_≡_, refl, sym, _∙_, ap}
+use mathlib.Core.Path.{_≡_, ap}
 use Prim.Native.Nat.{ℕ, _-_, _≤_, _<_, _^_}
 use native.Mathlib.Omega.{arith}
 use borrow.Author.Tests.{le-ltb}
-use lib.IntN.{ℤ, pos, negsuc, _-ℤ_}
+use lib.IntN.{pos, negsuc, _-ℤ_}
 use mir.Syntax.{w64}
-use mir.Val.{SFits, toZ, ofZ}
+use mir.Val.{SFits, toZ}
 use mir.ValLaws.{toZ-ofZ, toZ-pos}
 use Rattle.laws.proofs.Whole.{whole, minus-read}
 use Rattle.words.proofs.signed_of.Statement.{statement}

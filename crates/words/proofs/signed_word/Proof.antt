@@ -1,5 +1,5 @@
 -- `words::signed_word` meets its contract: by z's constructor, which its sign tells.
-use mathlib.Core.Path.{_≡_, refl}
+use mathlib.Core.Path.{_≡_, refl, ap, _∙_}
 use Prim.Native.Nat.{ℕ, _≤_, _<_, _^_}
 use native.Mathlib.Omega.{arith}
 use lib.IntN.{ℤ, pos, negsuc, natAbs, _-ℤ_}
@@ -18,6 +18,10 @@ z c = c .args .z
 
 back : (c : tie.Start) → toZ w64 (ofZ w64 (z c)) ≡ z c
 back c = toZ-ofZ w64 (z c) (c .fits .z)
+
+-- the bits read back
+both : (r : ℕ) (z : ℤ) → SFits w64 z → r ≡ ofZ w64 z → (r ≡ ofZ w64 z) × (toZ w64 r ≡ z)
+both r z f e = (e, ap (toZ w64) e ∙ toZ-ofZ w64 z f)
 
 -- below zero: z is negsuc n, and -1 - z is n
 flip : (n : ℕ) → negsuc 0 -ℤ negsuc n ≡ pos n
@@ -47,7 +51,7 @@ sub-result-2 : tie.Need-sub-result-2
 sub-result-2 c = let n = below c in rw (back (c .before), n .1 .0, flip (n .0), flip-back (n .0) (n .1 .1)) (omega arith)
 
 returns : tie.Need-returns
-returns c = let n = below c in rw (back (c .before), n .1 .0, flip (n .0), flip-back (n .0) (n .1 .1)) (omega arith)
+returns c = both _ _ (c .before .fits .z) (let n = below c in rw (back (c .before), n .1 .0, flip (n .0), flip-back (n .0) (n .1 .1)) (omega arith))
 
 -- from zero on
 from : (c : tie.Else1) → ltZ (z (c .before)) (pos 0) ≡ false
@@ -61,7 +65,7 @@ cast-result-2 : tie.Need-cast-result-2
 cast-result-2 c = rw (back (c .before)) (nonNeg-of (z (c .before)) (from c), omega (arith, size (z (c .before)) (c .before .fits .z)))
 
 returns-2 : tie.Need-returns-2
-returns-2 c = let e = not-below-zero (z (c .before)) (from c) in rw (back (c .before)) (rw e refl)
+returns-2 c = both _ _ (c .before .fits .z) (let e = not-below-zero (z (c .before)) (from c) in rw (back (c .before)) (rw e refl))
 
 pub signed-word-spec : {M : Type 1} → statement M
 signed-word-spec =

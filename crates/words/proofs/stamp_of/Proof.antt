@@ -1,22 +1,17 @@
+-- `words::stamp_of` meets its contract.
 use borrow.Author.Needs.{needs}
 use mir.Syntax.{w64}
 use mir.ValLaws.{toZ-ofZ}
 use borrow.Author.Tests.{ne-eqb}
 use Rattle.words.proofs.stamp_of.Statement.{statement}
 use Rattle.words.proofs.stamp_of.Tie as tie
-use Rattle.words.proofs.stamp_of.Reads as reads
-use Rattle.words.proofs.stamp_of.Lts as lts
-use Rattle.words.proofs.signed_of.Reads as signed-of-reads
 
--- src/lib.rt:100:55
 signed-of-requires : tie.Need-signed-of-requires
 signed-of-requires c κs = search needs
 
--- src/lib.rt:100:9
 returns : tie.Need-returns
 returns c = rw (c .before .if1 .taken, toZ-ofZ w64 (c .signed-of .result) (record { sfits = c .signed-of .ok }), c .signed-of .ensures)
 
--- src/lib.rt:96:1
 returns-2 : tie.Need-returns-2
 returns-2 c = rw (ne-eqb _ 1 (c .if1 .left))
 

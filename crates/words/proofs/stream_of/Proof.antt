@@ -1,80 +1,57 @@
+-- `words::stream_of` meets its contract.
 use Rattle.words.specs.Stream.{streamOf}
 use borrow.Author.Needs.{needs}
 use Rattle.words.proofs.stream_of.Statement.{statement}
 use Rattle.words.proofs.stream_of.Tie as tie
-use Rattle.words.proofs.stream_of.Reads as reads
-use Rattle.words.proofs.stream_of.Lts as lts
-use Rattle.words.proofs.components_of.Reads as components-of-reads
-use Rattle.words.proofs.flag_of.Reads as flag-of-reads
-use Rattle.words.proofs.maybe_components.Reads as maybe-components-reads
-use Rattle.words.proofs.score_of.Reads as score-of-reads
-use Rattle.words.proofs.short_of.Reads as short-of-reads
 
--- src/lib.rt:254:31
 shared-slice-read-components-of : tie.Need-shared-slice-read-components-of
 shared-slice-read-components-of c = search needs
 
--- src/lib.rt:254:37
 shared-slice-read-components-of-2 : tie.Need-shared-slice-read-components-of-2
 shared-slice-read-components-of-2 c = search needs
 
--- src/lib.rt:254:43
 shared-slice-read-components-of-3 : tie.Need-shared-slice-read-components-of-3
 shared-slice-read-components-of-3 c = search needs
 
--- src/lib.rt:254:49
 shared-slice-read-components-of-4 : tie.Need-shared-slice-read-components-of-4
 shared-slice-read-components-of-4 c = search needs
 
--- src/lib.rt:254:9
 components-of-requires : tie.Need-components-of-requires
 components-of-requires c κs = search needs
 
--- src/lib.rt:255:31
 shared-slice-read-score-of : tie.Need-shared-slice-read-score-of
 shared-slice-read-score-of c = search needs
 
--- src/lib.rt:255:37
 shared-slice-read-score-of-2 : tie.Need-shared-slice-read-score-of-2
 shared-slice-read-score-of-2 c = search needs
 
--- src/lib.rt:255:9
 score-of-requires : tie.Need-score-of-requires
 score-of-requires c κs = search needs
 
--- src/lib.rt:256:44
 shared-slice-read-maybe-components : tie.Need-shared-slice-read-maybe-components
 shared-slice-read-maybe-components c = search needs
 
--- src/lib.rt:256:9
 maybe-components-requires : tie.Need-maybe-components-requires
 maybe-components-requires c κs = search needs
 
--- src/lib.rt:258:31
 shared-slice-read-flag-of : tie.Need-shared-slice-read-flag-of
 shared-slice-read-flag-of c = search needs
 
--- src/lib.rt:258:23
 flag-of-requires : tie.Need-flag-of-requires
 flag-of-requires c κs = search needs
 
--- src/lib.rt:261:25
 shared-slice-read-short-of : tie.Need-shared-slice-read-short-of
 shared-slice-read-short-of c = search needs
 
--- src/lib.rt:261:16
 short-of-requires : tie.Need-short-of-requires
 short-of-requires c κs = search needs
 
--- src/lib.rt:262:26
 shared-slice-read-short-of-2 : tie.Need-shared-slice-read-short-of-2
 shared-slice-read-short-of-2 c = search needs
 
--- src/lib.rt:262:17
 short-of-requires-2 : tie.Need-short-of-requires-2
 short-of-requires-2 c κs = search needs
 
--- src/lib.rt:250:1
 returns : tie.Need-returns
 unfolding streamOf
 returns c =

@@ -1,0 +1,30 @@
+-- The content detector's record in 27 words: settings, stream, filter.
+use mathlib.Core.Bool.{Bool, cond, _&&_}
+use mathlib.Core.List.{List, _++_}
+use Prim.Native.Nat.{ℕ}
+use lib.Dec.{leb}
+use lib.ListN.{length, take, drop}
+use Rattle.content.specs.declared.Detector.{Detector}
+use Rattle.content.specs.Options.{defaults, options}
+use Rattle.content.specs.State.{fresh, zeroComponents}
+use Rattle.words.specs.Stream.{streamWords, isStream, streamOf}
+use Rattle.content_words.specs.Options.{optionsWords, isOptions, optionsOf}
+use Rattle.content_words.specs.Filter.{filterWords, isFilter, filterOf}
+
+unfoldable pub contentWords : Detector → List ℕ
+contentWords d = optionsWords (d .options) ++ (streamWords (d .stream) ++ filterWords (d .filter))
+
+-- there are 27 words, the version is this one, tags are 0 or 1, and fields of 32 bits have 32 bits. Later words are not looked at.
+unfoldable pub isContent : List ℕ → Bool
+isContent w = leb 27 (length w) && (isOptions (take 11 w) && isStream (take 10 (drop 11 w)) && isFilter (take 6 (drop 21 w)))
+
+-- what is read where the words are no record: the weights are zero, so that every call refuses it by 15
+unfoldable pub foreign : Detector
+foreign = fresh (options (defaults .threshold) (defaults .«min_duration») zeroComponents (defaults .«filter_mode») (defaults .«kernel_size») (defaults .«initial_cut»))
+
+-- the record that the words hold
+unfoldable pub contentOf : List ℕ → Detector
+contentOf w =
+    cond (isContent w)
+    (record { options = optionsOf (take 11 w); stream = streamOf (take 10 (drop 11 w)); filter = filterOf (take 6 (drop 21 w)) })
+    foreign
