@@ -5,30 +5,18 @@ use mathlib.Core.List.{List, [], _∷_}
 use Prim.Native.Nat.{ℕ, _<_, _≤_}
 use native.Mathlib.Omega.{arith}
 use borrow.Author.Tests.{le-leb, lt-ltb}
-use Rattle.timestamp.specs.declared.MaybeTimestamp.{MaybeTimestamp}
-use Rattle.timestamp.specs.declared.MaybeTimestamp.the-variants.{None, At}
-use Rattle.score.specs.declared.KernelSize.{KernelSize}
-use Rattle.score.specs.declared.KernelSize.the-variants.{Auto, Set}
 use Rattle.filter.specs.declared.FilterMode.{FilterMode}
 use Rattle.filter.specs.declared.FilterMode.the-variants.{Suppress, Merge}
 use Rattle.filter.specs.declared.Filter.{Filter}
 use Rattle.content.specs.declared.Options.{Options}
 use Rattle.words.specs.Choices.{flagWord, flagOf, stampTag, stampWord, stampOf, kernelTag, kernelWord, kernelOf}
-use Rattle.words.proofs.Made.{FloatAs, flag-low}
+use Rattle.words.proofs.Made.{FloatAs, flag-low, stamp-low, kernel-low}
 use Rattle.content_words.specs.Options.{contentVersion, modeWord, modeOf, optionsWords, isOptions, optionsOf}
 use Rattle.content_words.specs.Filter.{filterWords, isFilter, filterOf}
 
 mode-low : (m : FilterMode) (w : ℕ) → w ≡ modeWord m → w ≤ 1
 mode-low Merge w e = omega arith
 mode-low Suppress w e = omega arith
-
-kernel-low : (k : KernelSize) (w : ℕ) → w ≡ kernelTag k → w ≤ 1
-kernel-low Auto w e = omega arith
-kernel-low (Set n) w e = omega arith
-
-stamp-low : (t : MaybeTimestamp) (w : ℕ) → w ≡ stampTag t → w ≤ 1
-stamp-low None w e = omega arith
-stamp-low (At s) w e = omega arith
 
 pub options-made : (o : Options) (w1 w3 w4 w5 w6 w7 w8 w9 w10 : ℕ)
     → FloatAs (o .threshold) w1

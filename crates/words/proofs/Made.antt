@@ -1,4 +1,4 @@
--- A stream's words, each with what it reads back to, are the stream's and read back to it.
+-- A tag is 0 or 1. A stream's words, each with what it reads back to, are the stream's and read back to it.
 use mathlib.Core.Path.{_≡_, refl}
 use mathlib.Core.Bool.{Bool, true, false}
 use mathlib.Core.List.{List, [], _∷_}
@@ -7,13 +7,17 @@ use native.Mathlib.Nat.{mod-eq-of-lt}
 use native.Mathlib.Omega.{arith}
 use borrow.Author.Tests.{le-leb, lt-ltb}
 use lib.Ieee.{Float, binary64, toBits, ofBits}
+use Rattle.timestamp.specs.declared.MaybeTimestamp.{MaybeTimestamp}
+use Rattle.timestamp.specs.declared.MaybeTimestamp.the-variants.{None, At}
+use Rattle.score.specs.declared.KernelSize.{KernelSize}
+use Rattle.score.specs.declared.KernelSize.the-variants.{Auto, Set}
 use Rattle.score.specs.declared.Components.{Components}
 use Rattle.score.specs.declared.MaybeScore.{MaybeScore}
 use Rattle.score.specs.declared.MaybeScore.the-variants.{None as noScore, Some as someScore}
 use Rattle.score.specs.declared.MaybeComponents.{MaybeComponents}
 use Rattle.score.specs.declared.MaybeComponents.the-variants.{None as noComponents, Some as someComponents}
 use Rattle.stream.specs.declared.Stream.{Stream}
-use Rattle.words.specs.Choices.{flagWord, flagOf, scoreTag, scoreWord, scoreOf, componentsTag, componentsShown, componentsIf}
+use Rattle.words.specs.Choices.{flagWord, flagOf, stampTag, kernelTag, scoreTag, scoreWord, scoreOf, componentsTag, componentsShown, componentsIf}
 use Rattle.words.specs.Stream.{streamWords, isStream, streamOf}
 
 pub flag-low : (b : Bool) (w : ℕ) → w ≡ flagWord b → w ≤ 1
@@ -23,6 +27,14 @@ flag-low false w e = omega arith
 pub score-low : (s : MaybeScore) (w : ℕ) → w ≡ scoreTag s → w ≤ 1
 score-low noScore w e = omega arith
 score-low (someScore x) w e = omega arith
+
+pub stamp-low : (t : MaybeTimestamp) (w : ℕ) → w ≡ stampTag t → w ≤ 1
+stamp-low None w e = omega arith
+stamp-low (At s) w e = omega arith
+
+pub kernel-low : (k : KernelSize) (w : ℕ) → w ≡ kernelTag k → w ≤ 1
+kernel-low Auto w e = omega arith
+kernel-low (Set n) w e = omega arith
 
 components-low : (c : MaybeComponents) (w : ℕ) → w ≡ componentsTag c → w ≤ 1
 components-low noComponents w e = omega arith

@@ -1,0 +1,3 @@
+pub mod Options
+pub mod Window
+pub mod Record

@@ -1,0 +1,45 @@
+-- The adaptive detector's record in 288 words: settings, stream, window, the window's stamps and its scores.
+use mathlib.Core.Bool.{Bool, cond, _&&_}
+use mathlib.Core.List.{List, _++_}
+use Prim.Native.Nat.{ℕ}
+use lib.Dec.{leb}
+use lib.ListN.{length, take, drop}
+use Rattle.adaptive.specs.declared.Detector.{Detector}
+use Rattle.adaptive.specs.Options.{defaults, options}
+use Rattle.adaptive.specs.State.{fresh, zeroComponents}
+use Rattle.words.specs.Stream.{streamWords, isStream, streamOf}
+use Rattle.adaptive_words.specs.Options.{optionsWords, isOptions, optionsOf}
+use Rattle.adaptive_words.specs.Window.{windowWords, isWindow, windowOf, stampsWords, stampsOf, scoresWords, scoresOf}
+
+unfoldable pub adaptiveWords : Detector → List ℕ
+adaptiveWords d =
+    optionsWords (d .options)
+    ++ (streamWords (d .stream) ++ (windowWords (d .window) ++ (stampsWords (d .window .stamps) ++ scoresWords (d .window .scores))))
+
+-- there are 288 words, the version is this one, tags are 0 or 1, and fields of 32 bits have 32 bits. Later words are not looked at.
+unfoldable pub isAdaptive : List ℕ → Bool
+isAdaptive w = leb 288 (length w) && (isOptions (take 12 w) && isStream (take 10 (drop 12 w)) && isWindow (take 8 (drop 22 w)))
+
+-- what is read where the words are no record: the weights are zero, so that every call refuses it by 15
+unfoldable pub foreign : Detector
+foreign =
+    fresh
+    (options
+    (defaults .«adaptive_threshold»)
+    (defaults .«min_duration»)
+    (defaults .«window_width»)
+    (defaults .«min_content_val»)
+    zeroComponents
+    (defaults .«kernel_size»)
+    (defaults .«initial_cut»))
+
+-- the record that the words hold
+unfoldable pub adaptiveOf : List ℕ → Detector
+adaptiveOf w =
+    cond (isAdaptive w)
+    (record {
+      options = optionsOf (take 12 w);
+      stream = streamOf (take 10 (drop 12 w));
+      window = windowOf (take 8 (drop 22 w)) (stampsOf (take 129 (drop 30 w))) (scoresOf (take 129 (drop 159 w)));
+    })
+    foreign
