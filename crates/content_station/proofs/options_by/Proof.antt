@@ -1,0 +1,16 @@
+-- `content_station::options_by` meets its contract.
+use borrow.Author.Needs.{needs}
+use Rattle.content_station.proofs.options_by.Statement.{statement}
+use Rattle.content_station.proofs.options_by.Tie as tie
+
+mode-of-requires : tie.Need-mode-of-requires
+mode-of-requires c κs = search needs
+
+kernel-set-requires : tie.Need-kernel-set-requires
+kernel-set-requires c κs = search needs
+
+returns : tie.Need-returns
+returns c = rw (c .kernel-set .ensures, c .before .mode-of .ensures)
+
+pub options-by-spec : {M : Type 1} → statement M
+options-by-spec = tie.close (tie.spec mode-of-requires kernel-set-requires returns)

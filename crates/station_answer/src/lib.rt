@@ -1,0 +1,149 @@
+// What the calls of both detectors share: the memory that a frame needs, an answer in words, settings by numbers, and what the readers
+// show.
+ghost use mathlib.Core.Path.{_≡_};
+ghost use mathlib.Core.List.{_++_};
+ghost use Prim.Native.Nat.{_≤_, max};
+ghost use lib.ListN.{length, drop};
+ghost use Rattle.words.specs.Choices.{scoreTag, componentsTag, componentsShown};
+ghost use Rattle.station_answer.specs.Sizes.{storeBytes, scratchBytes, magnitudesCount};
+ghost use Rattle.station_answer.specs.Answer.{shortNumber, answerWords, scoreShown, componentAt};
+ghost use Rattle.station_answer.specs.Settings.{kernelSet};
+use score::Components;
+use score::KernelSize;
+use score::MaybeComponents;
+use score::MaybeScore;
+use timestamp::MaybeTimestamp;
+
+// The larger of two numbers.
+fn larger(a: u64, b: u64) -> u64
+    ensures { λ r. ⌜ r ≡ max a b ⌝ }
+{
+    if a < b {
+        return b;
+    }
+    a
+}
+
+// How many bytes the store of a frame of this size has; 0 of a size that every call refuses by 1.
+pub fn store_bytes(width: u32, height: u32) -> u64
+    ensures { λ r. ⌜ r ≡ storeBytes width height ⌝ }
+{
+    if (4096 < width) | (4096 < height) {
+        return 0;
+    }
+    4 * (width as u64 * height as u64)
+}
+
+// How many bytes the scratch of a frame of this size has; 0 of a size that every call refuses by 1.
+pub fn scratch_bytes(width: u32, height: u32) -> u64
+    ensures { λ r. ⌜ r ≡ scratchBytes width height ⌝ }
+{
+    if (4096 < width) | (4096 < height) {
+        return 0;
+    }
+    let w = width as u64;
+    let h = height as u64;
+    7 * (w * h) + 2 * larger(w, h)
+}
+
+// How many numbers of 32 bits the magnitudes of a frame of this size are; 0 of a size that every call refuses by 1.
+pub fn magnitudes_count(width: u32, height: u32) -> u64
+    ensures { λ r. ⌜ r ≡ magnitudesCount width height ⌝ }
+{
+    if (4096 < width) | (4096 < height) {
+        return 0;
+    }
+    width as u64 * height as u64
+}
+
+// The number of a call whose answer memory is too short, by what its number would be: 13 stands before 14.
+pub fn short_answer(number: u32) -> u32
+    ensures { λ r. ⌜ r ≡ shortNumber number ⌝ }
+{
+    if (number == 0) | (number == 14) {
+        return 13;
+    }
+    number
+}
+
+// The eight words of an answer.
+fn answer_words(cut: MaybeTimestamp, score: MaybeScore, deltas: Components) -> [u64; 8]
+    ensures { λ r. ⌜ r ≡ answerWords cut score deltas ⌝ }
+{
+    let w0 = words::stamp_tag(cut);
+    let w1 = words::stamp_word(cut);
+    let w2 = words::score_tag(score);
+    let w3 = words::score_word(score);
+    let w4 = words::float_word(deltas.delta_hue);
+    let w5 = words::float_word(deltas.delta_sat);
+    let w6 = words::float_word(deltas.delta_lum);
+    let w7 = words::float_word(deltas.delta_edges);
+    [w0, w1, w2, w3, w4, w5, w6, w7]
+}
+
+// Writes an answer at the start of out; the words after it stay.
+pub fn write_answer(out: &mut [u64], cut: MaybeTimestamp, score: MaybeScore, deltas: Components)
+    requires { ⌜ 8 ≤ length (now out) ⌝ }
+    ensures { λ _. ⌜ now (out .exit) ≡ answerWords cut score deltas ++ drop 8 (now (out .entry)) ⌝ }
+{
+    let w = answer_words(cut, score, deltas);
+    words::copy(&mut out[0..8], &w);
+}
+
+// A kernel's size by a number: 0 is not set.
+pub fn kernel_set(k: u32) -> KernelSize
+    ensures { λ r. ⌜ r ≡ kernelSet k ⌝ }
+{
+    if k == 0 {
+        return KernelSize::Auto;
+    }
+    KernelSize::Set(k)
+}
+
+// A score that may be missing, as 1 or 0 and the score or 0.0.
+pub fn has_score(s: MaybeScore) -> u32
+    ensures { λ r. ⌜ r ≡ scoreTag s ⌝ }
+{
+    match s {
+        MaybeScore::None => 0,
+        MaybeScore::Some(_) => 1,
+    }
+}
+
+pub fn score_shown(s: MaybeScore) -> f64
+    ensures { λ r. ⌜ r ≡ scoreShown s ⌝ }
+{
+    match s {
+        MaybeScore::None => 0.0,
+        MaybeScore::Some(x) => x,
+    }
+}
+
+// Components that may be missing, as 1 or 0 and one of the four, by its place, or 0.0.
+pub fn has_components(c: MaybeComponents) -> u32
+    ensures { λ r. ⌜ r ≡ componentsTag c ⌝ }
+{
+    match c {
+        MaybeComponents::None => 0,
+        MaybeComponents::Some(_) => 1,
+    }
+}
+
+pub fn component_at(c: MaybeComponents, place: u32) -> f64
+    ensures { λ r. ⌜ r ≡ componentAt (componentsShown c) place ⌝ }
+{
+    let shown = words::components_shown(c);
+    if place == 0 {
+        return shown.delta_hue;
+    }
+    if place == 1 {
+        return shown.delta_sat;
+    }
+    if place == 2 {
+        return shown.delta_lum;
+    }
+    if place == 3 {
+        return shown.delta_edges;
+    }
+    0.0
+}
