@@ -1,0 +1,39 @@
+-- What the calls of the adaptive detector promise, in words. `s` is the state at entry and `s′` at exit, `a` and `a′` the answer.
+use mathlib.Core.Path.{_≡_}
+use mathlib.Core.Bool.{Bool, false, cond}
+use mathlib.Core.List.{List, _++_}
+use Prim.Native.Nat.{ℕ, _<_}
+use lib.ListN.{length, drop}
+use Rattle.adaptive.specs.declared.Answer.{Answer}
+use Rattle.adaptive.specs.declared.Settled.{Settled}
+use Rattle.content_calls.specs.Call.{Memory}
+use Rattle.adaptive_calls.specs.Call.{Outcome}
+use Rattle.adaptive_words.specs.Record.{adaptiveWords, adaptiveOf}
+use Rattle.station_answer.specs.Answer.{answerWords, numberWith, after}
+
+-- a frame call: `o` is the outcome that the definition gives on the record that the words hold, `m` the memory
+pub record Told (o : Outcome) (r : ℕ) (s s′ a a′ : List ℕ) (m m′ : Memory) : Type 0 where
+  pub number : r ≡ numberWith (o .answer .number) (length a)
+  pub state : s′ ≡ after r (adaptiveWords (o .answer .detector) ++ drop 288 s) s
+  -- what was written reads back
+  pub read-back : r ≡ 0 → adaptiveOf s′ ≡ o .answer .detector
+  pub answer : a′ ≡ after r (answerWords (o .answer .cut) (o .answer .score) (o .answer .components) ++ drop 8 a) a
+  pub store : m′ .store ≡ after r (o .store) (m .store)
+  -- an accepted call leaves the scratch and the magnitudes with any content: only their lengths are promised
+  pub scratch-length : length (m′ .scratch) ≡ length (m .scratch)
+  pub magnitudes-length : length (m′ .magnitudes) ≡ length (m .magnitudes)
+  -- a refused call changes no lent byte
+  pub refused : 0 < r → m′ ≡ m
+
+-- `clear`
+pub record Cleared (x : Answer) (r : ℕ) (s s′ : List ℕ) : Type 0 where
+  pub number : r ≡ x .number
+  pub state : s′ ≡ after r (adaptiveWords (x .detector) ++ drop 288 s) s
+  pub read-back : r ≡ 0 → adaptiveOf s′ ≡ x .detector
+
+-- a settings call: 15 and nothing written where a number stands for no setting or the state is too short; else what settings return,
+-- which is a fresh record of the defaults where they are refused
+pub record New (x : Settled) (none : Bool) (r : ℕ) (s s′ : List ℕ) : Type 0 where
+  pub number : r ≡ cond none 15 (x .number)
+  pub state : s′ ≡ cond none s (adaptiveWords (x .detector) ++ drop 288 s)
+  pub read-back : none ≡ false → adaptiveOf s′ ≡ x .detector

@@ -1,0 +1,55 @@
+// The library that a station links: all that it calls, on numbers and lent memory alone. A slice passes as a pointer and then a length.
+// Nothing is asked of a caller: memory that is too short, and a state that is no record, are answered by their numbers.
+ghost use mathlib.Core.Path.{_≡_};
+ghost use Rattle.station_answer.specs.Sizes.{storeBytes, scratchBytes, magnitudesCount};
+
+pub mod adaptive_exports;
+pub mod content_exports;
+
+// How many words a content state has.
+#[no_mangle]
+pub extern "C" fn mw_content_words() -> u64
+    ensures { λ r. ⌜ r ≡ 27 ⌝ }
+{
+    27
+}
+
+// How many words an adaptive state has.
+#[no_mangle]
+pub extern "C" fn mw_adaptive_words() -> u64
+    ensures { λ r. ⌜ r ≡ 288 ⌝ }
+{
+    288
+}
+
+// How many words an answer has.
+#[no_mangle]
+pub extern "C" fn mw_answer_words() -> u64
+    ensures { λ r. ⌜ r ≡ 8 ⌝ }
+{
+    8
+}
+
+// How many bytes the store of a frame of this size has; 0 of a size that every call refuses by 1.
+#[no_mangle]
+pub extern "C" fn mw_store_bytes(width: u32, height: u32) -> u64
+    ensures { λ r. ⌜ r ≡ storeBytes width height ⌝ }
+{
+    station_answer::store_bytes(width, height)
+}
+
+// How many bytes the scratch of a frame of this size has; 0 of a size that every call refuses by 1.
+#[no_mangle]
+pub extern "C" fn mw_scratch_bytes(width: u32, height: u32) -> u64
+    ensures { λ r. ⌜ r ≡ scratchBytes width height ⌝ }
+{
+    station_answer::scratch_bytes(width, height)
+}
+
+// How many numbers of 32 bits the magnitudes of a frame of this size are; 0 of a size that every call refuses by 1.
+#[no_mangle]
+pub extern "C" fn mw_magnitudes(width: u32, height: u32) -> u64
+    ensures { λ r. ⌜ r ≡ magnitudesCount width height ⌝ }
+{
+    station_answer::magnitudes_count(width, height)
+}
