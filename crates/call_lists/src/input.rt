@@ -1,10 +1,13 @@
 // Settings, sizes and stamps from the bytes of a list. Record 0 is the settings, record i the i-th call, 16 bytes each.
+ghost use mathlib.Core.Path.{_≡_};
 ghost use Prim.Native.Nat.{_<_};
+ghost use Rattle.call_lists.specs.Records.{byteOf, thresholdOf, kernelBy, kernelOf, minimumOf, initialCut, sideOf, firstSize, nextSize, turnedTo, nextClock, stampOf, isForeign};
 use score::Components;
 use score::KernelSize;
 use timestamp::Timestamp;
 
 fn wide(b: u8) -> u32
+    ensures { λ r. ⌜ r ≡ b ⌝ }
     ensures { λ r. ⌜ r < 256 ⌝ }
 {
     b as u32
@@ -12,6 +15,7 @@ fn wide(b: u8) -> u32
 
 // Byte k of record i, or 0 where there is none.
 pub fn byte(script: &[u8], i: usize, k: usize) -> u32
+    ensures { λ r. ⌜ r ≡ byteOf (now (script .entry)) i k ⌝ }
     ensures { λ r. ⌜ r < 256 ⌝ }
 {
     if i < script.len() / 16 {
@@ -23,7 +27,9 @@ pub fn byte(script: &[u8], i: usize, k: usize) -> u32
 }
 
 // A threshold by its kind: one of the odd ones, or the other.
-pub fn threshold(kind: u32, other: f64) -> f64 {
+pub fn threshold(kind: u32, other: f64) -> f64
+    ensures { λ r. ⌜ r ≡ thresholdOf kind other ⌝ }
+{
     if kind == 0 {
         return 0.0 / 0.0;
     }
@@ -105,6 +111,7 @@ pub fn weights(script: &[u8]) -> Components {
 
 fn kernel_size(kind: u32, b: u32) -> KernelSize
     requires { ⌜ b < 256 ⌝ }
+    ensures { λ r. ⌜ r ≡ kernelBy kind b ⌝ }
 {
     if kind <= 3 {
         return KernelSize::Auto;
@@ -118,12 +125,16 @@ fn kernel_size(kind: u32, b: u32) -> KernelSize
     KernelSize::Set(2 * (b % 32) + 1)
 }
 
-pub fn kernel(script: &[u8]) -> KernelSize {
+pub fn kernel(script: &[u8]) -> KernelSize
+    ensures { λ r. ⌜ r ≡ kernelOf (now (script .entry)) ⌝ }
+{
     kernel_size(byte(script, 0, 8) % 8, byte(script, 0, 9))
 }
 
 // The least distance of two cuts.
-pub fn minimum(script: &[u8]) -> u64 {
+pub fn minimum(script: &[u8]) -> u64
+    ensures { λ r. ⌜ r ≡ minimumOf (now (script .entry)) ⌝ }
+{
     let kind = byte(script, 0, 10) % 16;
     if kind == 0 {
         return 0;
@@ -140,7 +151,9 @@ pub fn minimum(script: &[u8]) -> u64 {
     byte(script, 0, 11) as u64 * 1000
 }
 
-pub fn initial_cut(script: &[u8]) -> bool {
+pub fn initial_cut(script: &[u8]) -> bool
+    ensures { λ r. ⌜ r ≡ initialCut (now (script .entry)) ⌝ }
+{
     byte(script, 0, 7) / 2 % 2 == 0
 }
 
@@ -150,14 +163,18 @@ pub struct Size {
 }
 
 // Sides are small more often than not.
-fn side(b: u32) -> u32 {
+fn side(b: u32) -> u32
+    ensures { λ r. ⌜ r ≡ sideOf b ⌝ }
+{
     if b < 192 {
         return b % 13;
     }
     b % 41
 }
 
-pub fn first_size(script: &[u8]) -> Size {
+pub fn first_size(script: &[u8]) -> Size
+    ensures { λ r. ⌜ r ≡ firstSize (now (script .entry)) ⌝ }
+{
     Size {
         width: side(byte(script, 0, 12)),
         height: side(byte(script, 0, 13)),
@@ -165,7 +182,9 @@ pub fn first_size(script: &[u8]) -> Size {
 }
 
 // One call in sixteen changes the size.
-pub fn next_size(size: Size, script: &[u8], i: usize) -> Size {
+pub fn next_size(size: Size, script: &[u8], i: usize) -> Size
+    ensures { λ r. ⌜ r ≡ nextSize size (now (script .entry)) i ⌝ }
+{
     if byte(script, i, 3) % 16 == 0 {
         return Size {
             width: side(byte(script, i, 4)),
@@ -176,7 +195,9 @@ pub fn next_size(size: Size, script: &[u8], i: usize) -> Size {
 }
 
 // The clock is how far the stamp is before 2^63 - 1. It goes on as a rule, and is set back or to an edge at times.
-fn turned(clock: u64, kind: u32, step: u64) -> u64 {
+fn turned(clock: u64, kind: u32, step: u64) -> u64
+    ensures { λ r. ⌜ r ≡ turnedTo clock kind step ⌝ }
+{
     if kind == 0 {
         return 18446744073709551615;
     }
@@ -198,7 +219,9 @@ fn turned(clock: u64, kind: u32, step: u64) -> u64 {
     clock
 }
 
-pub fn next_clock(clock: u64, script: &[u8], i: usize) -> u64 {
+pub fn next_clock(clock: u64, script: &[u8], i: usize) -> u64
+    ensures { λ r. ⌜ r ≡ nextClock clock (now (script .entry)) i ⌝ }
+{
     turned(
         clock,
         byte(script, i, 1) % 32,
@@ -206,7 +229,9 @@ pub fn next_clock(clock: u64, script: &[u8], i: usize) -> u64 {
     )
 }
 
-pub fn stamp(clock: u64) -> Timestamp {
+pub fn stamp(clock: u64) -> Timestamp
+    ensures { λ r. ⌜ r ≡ stampOf clock ⌝ }
+{
     timestamp::saturating_sub_duration(
         Timestamp {
             micros: 9223372036854775807,
@@ -216,6 +241,8 @@ pub fn stamp(clock: u64) -> Timestamp {
 }
 
 // Whether call i is handed a bad record.
-pub fn is_foreign(script: &[u8], i: usize) -> bool {
+pub fn is_foreign(script: &[u8], i: usize) -> bool
+    ensures { λ r. ⌜ r ≡ isForeign (now (script .entry)) i ⌝ }
+{
     byte(script, i, 13) % 32 == 1
 }
