@@ -1,2 +1,3 @@
+pub mod Memory
 pub mod Records
 pub mod Wrote

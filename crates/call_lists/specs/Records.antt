@@ -1,6 +1,6 @@
 -- compare/README.md, "Lists of content calls": what the bytes of a list's records say of settings, sizes and stamps.
 use mathlib.Core.Bool.{Bool, true, false, cond}
-use mathlib.Core.List.{List}
+use mathlib.Core.List.{List, [], _∷_}
 use Prim.Native.Nat.{ℕ, _+_, _*_, _-_, _/_, _%_}
 use lib.Dec.{eqb, leb}
 use lib.Ieee.{Float, nan, inf, binary64, ofBits}
@@ -9,6 +9,8 @@ use lib.ListN.{length, getD}
 use Rattle.laws.specs.Floats.{float}
 use Rattle.timestamp.specs.Stamps.{saturatingSub}
 use Rattle.timestamp.specs.declared.Timestamp.{Timestamp}
+use Rattle.score.specs.Scores.{components, defaultWeights, lumaOnlyWeights}
+use Rattle.score.specs.declared.Components.{Components}
 use Rattle.score.specs.declared.KernelSize.{KernelSize}
 use Rattle.score.specs.declared.KernelSize.the-variants.{Auto, Set}
 use Rattle.call_lists.specs.declared.input.Size.{Size}
@@ -30,6 +32,50 @@ thresholdOf kind other =
     (eqb kind 2)
     (inf true)
     (cond (eqb kind 3) (ofBits binary64 9223372036854775808) (cond (eqb kind 4) (float 27) other))))
+
+-- "place b % 14 of 0, -0.0, 1, -1, 0.5, 0.1, 0.2, 0.3, 0.7, 2, -3.25, 2^20, -2^20, 1e-300", as their bits
+unfoldable pub weightList : List Float
+weightList =
+    ofBits binary64 0
+    ∷ ofBits binary64 9223372036854775808
+    ∷ ofBits binary64 4607182418800017408
+    ∷ ofBits binary64 13830554455654793216
+    ∷ ofBits binary64 4602678819172646912
+    ∷ ofBits binary64 4591870180066957722
+    ∷ ofBits binary64 4596373779694328218
+    ∷ ofBits binary64 4599075939470750515
+    ∷ ofBits binary64 4604480259023595110
+    ∷ ofBits binary64 4611686018427387904
+    ∷ ofBits binary64 13837872805049270272
+    ∷ ofBits binary64 4697254411347427328
+    ∷ ofBits binary64 13920626448202203136
+    ∷ ofBits binary64 118622047889322841
+    ∷ []
+
+-- "weight(b): 252 NaN, 253 and 254 the infinities, 255 2^20 + 1, else" one of the list
+unfoldable pub weightOf : ℕ → Float
+weightOf b =
+    cond
+    (eqb b 252)
+    nan
+    (cond (eqb b 253) (inf false) (cond (eqb b 254) (inf true) (cond (eqb b 255) (float 1048577) (getD weightList (b % 14) nan))))
+
+-- "by r[2] % 8: 0 the default, 1 luma only, 2 (1, 1, 1, e), 3 (0, -0.0, 0, e), else weight(r[3]) to weight(r[5]) and e, where e is weight(r[6])"
+unfoldable pub weightsOf : List ℕ → Components
+weightsOf s =
+    cond
+    (eqb (byteOf s 0 2 % 8) 0)
+    defaultWeights
+    (cond
+    (eqb (byteOf s 0 2 % 8) 1)
+    lumaOnlyWeights
+    (cond
+    (eqb (byteOf s 0 2 % 8) 2)
+    (components (float 1) (float 1) (float 1) (weightOf (byteOf s 0 6)))
+    (cond
+    (eqb (byteOf s 0 2 % 8) 3)
+    (components (float 0) (ofBits binary64 9223372036854775808) (float 0) (weightOf (byteOf s 0 6)))
+    (components (weightOf (byteOf s 0 3)) (weightOf (byteOf s 0 4)) (weightOf (byteOf s 0 5)) (weightOf (byteOf s 0 6))))))
 
 -- "by r[8] % 8: 0 to 3 not set, 4 2^32 - 1, 5 r[9], else 2 × (r[9] % 32) + 1"
 unfoldable pub kernelBy : (kind b : ℕ) → KernelSize

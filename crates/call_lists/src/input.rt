@@ -1,7 +1,9 @@
 // Settings, sizes and stamps from the bytes of a list. Record 0 is the settings, record i the i-th call, 16 bytes each.
 ghost use mathlib.Core.Path.{_≡_};
 ghost use Prim.Native.Nat.{_<_};
-ghost use Rattle.call_lists.specs.Records.{byteOf, thresholdOf, kernelBy, kernelOf, minimumOf, initialCut, sideOf, firstSize, nextSize, turnedTo, nextClock, stampOf, isForeign};
+ghost use lib.Ieee.{nan};
+ghost use lib.ListN.{getD};
+ghost use Rattle.call_lists.specs.Records.{byteOf, thresholdOf, weightList, weightOf, weightsOf, kernelBy, kernelOf, minimumOf, initialCut, sideOf, firstSize, nextSize, turnedTo, nextClock, stampOf, isForeign};
 use score::Components;
 use score::KernelSize;
 use timestamp::Timestamp;
@@ -67,11 +69,14 @@ const WEIGHTS: [f64; 14] = [
 
 fn listed(i: usize) -> f64
     requires { ⌜ i < 14 ⌝ }
+    ensures { λ r. ⌜ r ≡ getD weightList i nan ⌝ }
 {
     WEIGHTS[i]
 }
 
-fn weight(b: u32) -> f64 {
+fn weight(b: u32) -> f64
+    ensures { λ r. ⌜ r ≡ weightOf b ⌝ }
+{
     if b == 252 {
         return 0.0 / 0.0;
     }
@@ -87,7 +92,9 @@ fn weight(b: u32) -> f64 {
     listed((b % 14) as usize)
 }
 
-pub fn weights(script: &[u8]) -> Components {
+pub fn weights(script: &[u8]) -> Components
+    ensures { λ r. ⌜ r ≡ weightsOf (now (script .entry)) ⌝ }
+{
     let kind = byte(script, 0, 2) % 8;
     if kind == 0 {
         return Components::default();

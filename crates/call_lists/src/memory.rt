@@ -1,6 +1,9 @@
 // What a frame call is lent: planes with their padding, store, scratch and magnitudes, of the lengths needed or a few more, and
 // in faulty calls one less.
-ghost use Prim.Native.Nat.{_≤_};
+ghost use mathlib.Core.Path.{_≡_};
+ghost use mathlib.Core.Bool.{cond};
+ghost use Prim.Native.Nat.{_-_, _≤_, min, max};
+ghost use Rattle.call_lists.specs.Memory.{areaOf, faultsOf, lentOf, leastOf, paddingOf, numbersOf};
 use crate::input;
 use input::Size;
 
@@ -21,6 +24,7 @@ pub struct Numbers {
 }
 
 pub fn at_most(n: usize, most: usize) -> usize
+    ensures { λ r. ⌜ r ≡ min n most ⌝ }
     ensures { λ r. ⌜ r ≤ most ⌝ }
 {
     if n <= most {
@@ -31,6 +35,7 @@ pub fn at_most(n: usize, most: usize) -> usize
 
 // w * h; 0 where a side is larger than those of the lists.
 pub fn area(w: u32, h: u32) -> usize
+    ensures { λ r. ⌜ r ≡ areaOf w h ⌝ }
     ensures { λ r. ⌜ r ≤ 5248 ⌝ }
 {
     if w <= 128 {
@@ -41,7 +46,9 @@ pub fn area(w: u32, h: u32) -> usize
     0
 }
 
-fn larger(x: u32, y: u32) -> u32 {
+fn larger(x: u32, y: u32) -> u32
+    ensures { λ r. ⌜ r ≡ max x y ⌝ }
+{
     if x < y {
         return y;
     }
@@ -51,6 +58,7 @@ fn larger(x: u32, y: u32) -> u32 {
 // The length lent where `need` is asked for: one less, or up to three more.
 fn lent(need: usize, more: u32, short: bool) -> usize
     requires { ⌜ need ≤ 65536 ⌝ }
+    ensures { λ r. ⌜ r ≡ lentOf need more short ⌝ }
 {
     if short {
         if 0 < need {
@@ -61,7 +69,9 @@ fn lent(need: usize, more: u32, short: bool) -> usize
     need + (more % 4) as usize
 }
 
-fn below(n: u32, short: bool) -> u32 {
+fn below(n: u32, short: bool) -> u32
+    ensures { λ r. ⌜ r ≡ cond short (n - 1) n ⌝ }
+{
     if short {
         if 0 < n {
             return n - 1;
@@ -70,7 +80,9 @@ fn below(n: u32, short: bool) -> u32 {
     n
 }
 
-fn too_wide(width: u32, large: bool) -> u32 {
+fn too_wide(width: u32, large: bool) -> u32
+    ensures { λ r. ⌜ r ≡ cond large 4097 width ⌝ }
+{
     if large {
         return 4097;
     }
@@ -78,7 +90,9 @@ fn too_wide(width: u32, large: bool) -> u32 {
 }
 
 // Eight faults as bits; one call in four has any.
-fn faults(script: &[u8], i: usize) -> u32 {
+fn faults(script: &[u8], i: usize) -> u32
+    ensures { λ r. ⌜ r ≡ faultsOf (now (script .entry)) i ⌝ }
+{
     if input::byte(script, i, 13) % 4 == 0 {
         return input::byte(script, i, 14) & input::byte(script, i, 15);
     }
@@ -87,6 +101,7 @@ fn faults(script: &[u8], i: usize) -> u32 {
 
 // The least stride: BGR has three bytes to a pixel.
 fn least(kind: u32, width: u32) -> u32
+    ensures { λ r. ⌜ r ≡ leastOf kind width ⌝ }
     ensures { λ r. ⌜ r ≤ 120 ⌝ }
 {
     let w = at_most(width as usize, 40) as u32;
@@ -100,6 +115,7 @@ fn least(kind: u32, width: u32) -> u32
 }
 
 fn padding(b: u32) -> u32
+    ensures { λ r. ⌜ r ≡ paddingOf b ⌝ }
     ensures { λ r. ⌜ r ≤ 3 ⌝ }
 {
     if b < 128 {
@@ -109,7 +125,9 @@ fn padding(b: u32) -> u32
 }
 
 // The numbers of call i.
-pub fn frame(size: Size, script: &[u8], i: usize) -> Numbers {
+pub fn frame(size: Size, script: &[u8], i: usize) -> Numbers
+    ensures { λ r. ⌜ r ≡ numbersOf size (now (script .entry)) i ⌝ }
+{
     let w = size.width;
     let h = size.height;
     let fault = faults(script, i);
@@ -134,7 +152,9 @@ pub fn frame(size: Size, script: &[u8], i: usize) -> Numbers {
 }
 
 // The stride, or one less than the least.
-fn strided(stride: u32, narrow: u32, short: bool) -> u32 {
+fn strided(stride: u32, narrow: u32, short: bool) -> u32
+    ensures { λ r. ⌜ r ≡ cond short (narrow - 1) stride ⌝ }
+{
     if short {
         return below(narrow, short);
     }
