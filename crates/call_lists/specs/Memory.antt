@@ -4,7 +4,8 @@ use mathlib.Core.List.{List, _++_}
 use Prim.Native.Nat.{ℕ, _+_, _*_, _-_, _/_, _%_, min, max}
 use lib.Bits.{bitAnd}
 use lib.Dec.{eqb, leb}
-use lib.ListN.{length, drop, replicate}
+use lib.ListN.{length, drop}
+use Rattle.laws.specs.Lists.{tabulate}
 use Rattle.replay.specs.Generator.{nextOf, after, shades}
 use Rattle.replay.specs.Generator.{byteOf as drawn}
 use Rattle.call_lists.specs.declared.input.Size.{Size}
@@ -57,3 +58,29 @@ numbersOf size s i =
     (byteOf s i 7)
     (leastOf (byteOf s i 0 % 32) (size .width))
     (leastOf (byteOf s i 0 % 32) (size .width) + paddingOf (byteOf s i 6))
+
+-- how many bytes of each plane are renewed: "none for r[9] % 4 = 0, at most r[10] for 1, else as many as are needed"
+unfoldable pub renewedBy : (need kind b : ℕ) → ℕ
+renewedBy need kind b = cond (eqb kind 0) 0 (cond (eqb kind 1) (min need b) need)
+
+abbrev pub countOf : (need : ℕ) → List ℕ → ℕ → ℕ
+countOf need s i = renewedBy need (byteOf s i 9 % 4) (byteOf s i 10)
+
+-- "x = 256 × r[11] + r[12]"
+abbrev pub startOf : List ℕ → ℕ → ℕ
+startOf s i = byteOf s i 11 * 256 + byteOf s i 12
+
+abbrev pub kindOf : List ℕ → ℕ → ℕ
+kindOf s i = byteOf s i 8 % 8
+
+-- n bytes from x: kinds "0 to 3 a generated run of that kind ..; else one byte of the generator throughout"
+unfoldable pub renewal : (n x kind : ℕ) → List ℕ
+renewal n x kind = cond (leb kind 3) (shades n x kind) (tabulate n (λ k. drawn (nextOf x)))
+
+-- a plane whose first n bytes are renewed, or all where it has fewer
+abbrev pub renewedPlane : List ℕ → (n x kind : ℕ) → List ℕ
+renewedPlane plane n x kind = renewal (min n (length plane)) x kind ++ drop (min n (length plane)) plane
+
+-- the generator's number after that, from which the next plane goes on
+unfoldable pub numberAfter : List ℕ → (n x kind : ℕ) → ℕ
+numberAfter plane n x kind = cond (leb kind 3) (after (min n (length plane)) x) (nextOf x)

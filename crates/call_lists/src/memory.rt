@@ -3,7 +3,9 @@
 ghost use mathlib.Core.Path.{_≡_};
 ghost use mathlib.Core.Bool.{cond};
 ghost use Prim.Native.Nat.{_-_, _≤_, min, max};
-ghost use Rattle.call_lists.specs.Memory.{areaOf, faultsOf, lentOf, leastOf, paddingOf, numbersOf};
+ghost use Rattle.call_lists.specs.Memory.{areaOf, faultsOf, lentOf, leastOf, paddingOf, numbersOf, renewedBy, countOf, startOf, kindOf, renewedPlane, numberAfter};
+ghost use lib.ListN.{length};
+ghost use Rattle.laws.specs.Lists.{tabulate};
 use crate::input;
 use input::Size;
 
@@ -162,7 +164,9 @@ fn strided(stride: u32, narrow: u32, short: bool) -> u32
 }
 
 // How many bytes of each plane a call renews: none, a part, or all.
-fn renewed(need: usize, kind: u32, b: u32) -> usize {
+fn renewed(need: usize, kind: u32, b: u32) -> usize
+    ensures { λ r. ⌜ r ≡ renewedBy need kind b ⌝ }
+{
     if kind == 0 {
         return 0;
     }
@@ -173,7 +177,9 @@ fn renewed(need: usize, kind: u32, b: u32) -> usize {
 }
 
 // One byte throughout.
-fn level(plane: &mut [u8], b: u8) {
+fn level(plane: &mut [u8], b: u8)
+    ensures { λ _. ⌜ now (plane .exit) ≡ tabulate (length (now (plane .entry))) (λ k. b) ⌝ }
+{
     let mut i = 0;
     while i < plane.len() {
         plane[i] = b;
@@ -182,7 +188,10 @@ fn level(plane: &mut [u8], b: u8) {
 }
 
 // A run of the generator for kinds 0 to 3; one byte throughout for the others. Returns the generator's number after it.
-fn renew(plane: &mut [u8], n: usize, x: u32, kind: u32) -> u32 {
+fn renew(plane: &mut [u8], n: usize, x: u32, kind: u32) -> u32
+    ensures { λ r. ⌜ r ≡ numberAfter (now (plane .entry)) n x kind ⌝ }
+    ensures { λ _. ⌜ now (plane .exit) ≡ renewedPlane (now (plane .entry)) n x kind ⌝ }
+{
     let e = at_most(n, plane.len());
     if kind <= 3 {
         return replay::fill(&mut plane[..e], x, kind);
@@ -200,7 +209,11 @@ pub fn refill(
     hue: &mut [u8],
     saturation: &mut [u8],
     value: &mut [u8],
-) {
+)
+    ensures { λ _. ⌜ now (hue .exit) ≡ renewedPlane (now (hue .entry)) (countOf need (now (script .entry)) i) (startOf (now (script .entry)) i) (kindOf (now (script .entry)) i) ⌝ }
+    ensures { λ _. ⌜ now (saturation .exit) ≡ renewedPlane (now (saturation .entry)) (countOf need (now (script .entry)) i) (numberAfter (now (hue .entry)) (countOf need (now (script .entry)) i) (startOf (now (script .entry)) i) (kindOf (now (script .entry)) i)) (kindOf (now (script .entry)) i) ⌝ }
+    ensures { λ _. ⌜ now (value .exit) ≡ renewedPlane (now (value .entry)) (countOf need (now (script .entry)) i) (numberAfter (now (saturation .entry)) (countOf need (now (script .entry)) i) (numberAfter (now (hue .entry)) (countOf need (now (script .entry)) i) (startOf (now (script .entry)) i) (kindOf (now (script .entry)) i)) (kindOf (now (script .entry)) i)) (kindOf (now (script .entry)) i) ⌝ }
+{
     let kind = input::byte(script, i, 8) % 8;
     let n = renewed(
         need,

@@ -1,7 +1,9 @@
--- `renew` is safe: no more is renewed than there is.
+-- `memory::renew` meets its contract: no more is renewed than there is, and the rest stays.
 use native.Mathlib.Omega.{arith}
 use lib.ListN.{length-take}
 use borrow.Author.Needs.{needs}
+use borrow.Author.Tests.{le-leb, lt-leb}
+use Rattle.call_lists.proofs.Renewing.{made-run, made-level}
 use Rattle.call_lists.proofs.memory.renew.Statement.{statement}
 use Rattle.call_lists.proofs.memory.renew.Tie as tie
 
@@ -21,7 +23,8 @@ same-length : tie.Need-same-length
 same-length c = search needs
 
 returns : tie.Need-returns
-returns c = search needs
+returns c =
+    made-run _ _ _ _ _ _ _ (le-leb _ _ (c .before .before .before .before .if1 .taken)) (c .before .before .before .before .before .at-most .ensures .0) (c .before .before .fill .ensures .0) (c .before .before .fill .ensures .1)
 
 next-requires : tie.Need-next-requires
 next-requires c κs = search needs
@@ -42,7 +45,8 @@ same-length-2 : tie.Need-same-length-2
 same-length-2 c = search needs
 
 returns-2 : tie.Need-returns-2
-returns-2 c = search needs
+returns-2 c =
+    made-level _ _ _ _ _ _ _ _ (lt-leb _ _ (c .before .before .before .before .before .before .if1 .left)) (c .before .before .before .before .before .before .before .at-most .ensures .0) (c .before .before .before .before .before .next .ensures) (c .before .before .before .byte .ensures) (c .before .before .level .ensures)
 
 pub renew-spec : {M : Type 1} → statement M
 renew-spec =
