@@ -72,7 +72,8 @@ module _ {M : Type 1} (𝓤 : URA M) (H : Heap 𝓤) (A : Atoms 𝓤) (mem : Mem
   Check = tripleOf 𝓤 H A check.signature (check.spec 𝓤 H A mem run)
 
 module _ {M : Type 1} (𝓤 : URA M) (H : Heap 𝓤) (A : Atoms 𝓤) (W : Given 𝓤 H A) (mem : Memory → SProp 𝓤) (run : Routine → Fun 𝓤) (κ : Lft) (q : Share) (hue saturation value : Plane) (width height stride : ℕ) (ts : Timestamp)
-    (hue-is : Is (ShrSlice (named 0) κ u8) hue (val hue ∷ [])) (saturation-is : Is (ShrSlice (named 0) κ u8) saturation (val saturation ∷ [])) (value-is : Is (ShrSlice (named 0) κ u8) value (val value ∷ [])) (w-fits : width < 2 ^ 32) (h-fits : height < 2 ^ 32) (s-fits : stride < 2 ^ 32) (ts-is : Is Stamp.the-row ts (Ts.lowered ts ∷ [])) where
+    (hue-is : Is (ShrSlice (named 0) κ u8) hue (val hue ∷ [])) (saturation-is : Is (ShrSlice (named 0) κ u8) saturation (val saturation ∷ [])) (value-is : Is (ShrSlice (named 0) κ u8) value (val value ∷
+    [])) (w-fits : width < 2 ^ 32) (h-fits : height < 2 ^ 32) (s-fits : stride < 2 ^ 32) (ts-is : Is Stamp.the-row ts (Ts.lowered ts ∷ [])) where
   abbrev args : Args it.signature (κ, tt)
   args = (hue, (saturation, (value, (width, (height, (stride, (ts, tt)))))))
 
@@ -109,12 +110,30 @@ module _ {M : Type 1} (𝓤 : URA M) (H : Heap 𝓤) (A : Atoms 𝓤) (W : Given
 
   -- what the callee is passed, and that it is had for nothing
   abbrev to : Check 𝓤 H A mem run .Ghost
-  to = ((tt, tt, tt, (length (now hue), (length (now saturation), (length (now value), (width, (height, (stride, tt)))))), (vint w64 (length (now hue)) ∷ [], (vint w64 (length (now saturation)) ∷ [], (vint w64 (length (now value)) ∷ [], (vint w32 width ∷ [], (vint w32 height ∷ [], (vint w32 stride ∷ [], tt))))))), tt)
+  to = (
+    (
+      tt,
+      tt,
+      tt,
+      (length (now hue), (length (now saturation), (length (now value), (width, (height, (stride, tt)))))),
+      (
+        vint w64 (length (now hue)) ∷ [],
+        (
+          vint w64 (length (now saturation)) ∷
+              [],
+          (vint w64 (length (now value)) ∷ [], (vint w32 width ∷ [], (vint w32 height ∷ [], (vint w32 stride ∷ [], tt)))),
+        ),
+      ),
+    ),
+    tt,
+  )
 
   asked : ent 𝓤 (emp 𝓤) (Check 𝓤 H A mem run .pre to)
   asked =
       qed W (‵ ftrue ∷ []) ∵
-      nothing ! $ owned ! u32 (Is u32) (uint-makes 𝓤 H A W w32) stride _ (refl, s-fits) $ fjoin ! $ owned ! u32 (Is u32) (uint-makes 𝓤 H A W w32) height _ (refl, h-fits) $ fjoin ! $ owned ! u32 (Is u32) (uint-makes 𝓤 H A W w32) width _ (refl, w-fits) $ fjoin ! $ owned ! usize (Is usize) (uint-makes 𝓤 H A W w64) (length (now value)) _ (refl, typed-value .1 .0 .fits) $ fjoin ! $ owned ! usize (Is usize) (uint-makes 𝓤 H A W w64) (length (now saturation)) _ (refl, typed-saturation .1 .0 .fits) $ fjoin ! $ owned ! usize (Is usize) (uint-makes 𝓤 H A W w64) (length (now hue)) _ (refl, typed-hue .1 .0 .fits) $ fjoin ! $ move ! (1 ∷ 0 ∷ []) $ join ! $ frame ! $ done !
+      nothing ! $ owned ! u32 (Is u32) (uint-makes 𝓤 H A W w32) stride _ (refl, s-fits) $ fjoin ! $ owned ! u32 (Is u32) (uint-makes 𝓤 H A W w32) height _ (refl, h-fits) $ fjoin ! $
+      owned ! u32 (Is u32) (uint-makes 𝓤 H A W w32) width _ (refl, w-fits) $ fjoin ! $ owned ! usize (Is usize) (uint-makes 𝓤 H A W w64) (length (now value)) _ (refl, typed-value .1 .0 .fits) $ fjoin ! $
+      owned ! usize (Is usize) (uint-makes 𝓤 H A W w64) (length (now saturation)) _ (refl, typed-saturation .1 .0 .fits) $ fjoin ! $ owned ! usize (Is usize) (uint-makes 𝓤 H A W w64) (length (now hue)) _ (refl, typed-hue .1 .0 .fits) $ fjoin ! $ move ! (1 ∷ 0 ∷ []) $ join ! $ frame ! $ done !
 
   -- of the callee's `ensured`, the clause alone
   said : (n : ℕ) → ent 𝓤 (ensured 𝓤 H A check.ended (check.clauses 𝓤 H A mem run) tt (to .0 .3) tt n) (fact 𝓤 (n ≡ number))
@@ -124,9 +143,12 @@ module _ {M : Type 1} (𝓤 : URA M) (H : Heap 𝓤) (A : Atoms 𝓤) (W : Given
   exits n e n-fits =
       qed W ((‵ (flft κ q) ⊛ ‵ ftrue) ∷ ‵ (owns (ShrSlice (named 0) κ u8 ∷ ShrSlice (named 0) κ u8 ∷ ShrSlice (named 0) κ u8 ∷ u32 ∷ u32 ∷ u32 ∷ Stamp.the-row ∷ []) args at) ∷ []) ∵
       suffices ! _ (ends-at 𝓤 H A it.ended stayed (it.clauses 𝓤 H A mem run) W (((κ, tt), (q, tt), tt, args, at), tt) (R′.lowered (answer n)) (answer n) (tt, (tt, (tt, (tt, (tt, (tt, (tt, tt))))))) (tt, (tt, (tt, (tt, (tt, (tt, (tt, tt)))))))) $ says ! (λ i. record { number = e i; frame = made }) $
-      frame ! $ fsplit ! $ use1 W (‵ (Own hue) ⊛ ‵ (Own hue)) (shr-slice-copy 𝓤 H A W (named 0) κ u8 .twice hue (val hue ∷ [])) $ split ! $ move ! (2 ∷ []) $ fsplit ! $ use1 W (‵ (Own saturation) ⊛ ‵ (Own saturation)) (shr-slice-copy 𝓤 H A W (named 0) κ u8 .twice saturation (val saturation ∷ [])) $ split ! $ move ! (2 ∷ []) $ fsplit ! $ use1 W (‵ (Own value) ⊛ ‵ (Own value)) (shr-slice-copy 𝓤 H A W (named 0) κ u8 .twice value (val value ∷ [])) $ split ! $ move ! (0 ∷ 2 ∷ []) $ fjoin ! $ move ! (2 ∷ 0 ∷ []) $ fjoin ! $ move ! (3 ∷ 0 ∷ []) $ fjoin ! $ frame ! $
+      frame ! $ fsplit ! $ use1 W (‵ (Own hue) ⊛ ‵ (Own hue)) (shr-slice-copy 𝓤 H A W (named 0) κ u8 .twice hue (val hue ∷ [])) $ split ! $ move ! (2 ∷ []) $ fsplit ! $
+      use1 W (‵ (Own saturation) ⊛ ‵ (Own saturation)) (shr-slice-copy 𝓤 H A W (named 0) κ u8 .twice saturation (val saturation ∷ [])) $ split ! $ move ! (2 ∷ []) $ fsplit ! $
+      use1 W (‵ (Own value) ⊛ ‵ (Own value)) (shr-slice-copy 𝓤 H A W (named 0) κ u8 .twice value (val value ∷ [])) $ split ! $ move ! (0 ∷ 2 ∷ []) $ fjoin ! $ move ! (2 ∷ 0 ∷ []) $ fjoin ! $ move ! (3 ∷ 0 ∷ []) $ fjoin ! $ frame ! $
       -- [what the planes own]: with what the plain fields own it is what the record owns, and that with the number's what the answer owns
-      nothing ! $ owned ! Stamp.the-row (Is Stamp.the-row) (LL.makes Stamp.the-type Ts.the-plain 𝓤 H A) ts _ ts-is $ fjoin ! $ owned ! u32 (Is u32) (uint-makes 𝓤 H A W w32) stride _ (refl, s-fits) $ fjoin ! $ owned ! u32 (Is u32) (uint-makes 𝓤 H A W w32) height _ (refl, h-fits) $ fjoin ! $ owned ! u32 (Is u32) (uint-makes 𝓤 H A W w32) width _ (refl, w-fits) $ fjoin ! $ move ! (1 ∷ 0 ∷ []) $ fjoin ! $ move ! (1 ∷ 0 ∷ []) $ fjoin ! $ move ! (1 ∷ 0 ∷ []) $ fjoin ! $
+      nothing ! $ owned ! Stamp.the-row (Is Stamp.the-row) (LL.makes Stamp.the-type Ts.the-plain 𝓤 H A) ts _ ts-is $ fjoin ! $ owned ! u32 (Is u32) (uint-makes 𝓤 H A W w32) stride _ (refl, s-fits) $ fjoin ! $
+      owned ! u32 (Is u32) (uint-makes 𝓤 H A W w32) height _ (refl, h-fits) $ fjoin ! $ owned ! u32 (Is u32) (uint-makes 𝓤 H A W w32) width _ (refl, w-fits) $ fjoin ! $ move ! (1 ∷ 0 ∷ []) $ fjoin ! $ move ! (1 ∷ 0 ∷ []) $ fjoin ! $ move ! (1 ∷ 0 ∷ []) $ fjoin ! $
       use1 W (‵ (T.the-row (namedLft 1 0 tt (κ, tt)) .own made (T′.lowered made ∷ []))) (own-shut 𝓤 H A W (T.the-type (namedLft 1 0 tt (κ, tt))) (T′.the-laws (namedLft 1 0 tt (κ, tt))) args) $
       nothing ! $ move ! (1 ∷ 0 ∷ []) $ fjoin ! $ owned ! u32 (Is u32) (uint-makes 𝓤 H A W w32) n _ (refl, n-fits) $ fjoin ! $
       by ! (own-shut 𝓤 H A W (R.the-type (namedLft 1 0 tt (κ, tt))) (R′.the-laws (namedLft 1 0 tt (κ, tt))) (n, (made, tt)))
@@ -134,9 +156,11 @@ module _ {M : Type 1} (𝓤 : URA M) (H : Heap 𝓤) (A : Atoms 𝓤) (W : Given
   module _ (C : Calls 𝓤 H) (Λ : Loops 𝓤 H) (fm : FmC 𝓤 H (W .laws) C) (known : Triple 𝓤 (C #check) (Check 𝓤 H A mem run)) where
     walk : ent 𝓤 (onEntry 𝓤 H A it.signature (κ, tt) (q, tt) args at) (WpFn 𝓤 H C Λ code.function (val hue ∷ val saturation ∷ val value ∷ vint w32 width ∷ vint w32 height ∷ vint w32 stride ∷ Ts.lowered ts ∷ []) Post)
     walk =
-        qed W ((‵ (flft κ q) ⊛ ‵ ftrue) ∷ ‵ (owns (ShrSlice (named 0) κ u8 ∷ ShrSlice (named 0) κ u8 ∷ ShrSlice (named 0) κ u8 ∷ u32 ∷ u32 ∷ u32 ∷ Stamp.the-row ∷ []) args at) ∷ []) ∵ enter ! C Λ code.function (val hue ∷ val saturation ∷ val value ∷ vint w32 width ∷ vint w32 height ∷ vint w32 stride ∷ Ts.lowered ts ∷ []) _ $
+        qed W ((‵ (flft κ q) ⊛ ‵ ftrue) ∷ ‵ (owns (ShrSlice (named 0) κ u8 ∷ ShrSlice (named 0) κ u8 ∷ ShrSlice (named 0) κ u8 ∷ u32 ∷ u32 ∷ u32 ∷ Stamp.the-row ∷ []) args at) ∷ []) ∵ enter ! C Λ code.function (val hue ∷
+        val saturation ∷ val value ∷ vint w32 width ∷ vint w32 height ∷ vint w32 stride ∷ Ts.lowered ts ∷ []) _ $
         alloc1 ! (λ l0. alloc1 ! (λ l1. alloc1 ! (λ l2. alloc1 ! (λ l3. alloc1 ! (λ l4. alloc1 ! (λ l5. alloc1 ! (λ l6. alloc1 ! (λ l7. alloc1 ! (λ l8. alloc1 ! (λ l9. alloc1 ! (λ l10. alloc1 ! (λ l11. alloc1 ! (λ l12. alloc0 ! $ params1 ! $
-        pass1 ! (init ! 22 refl (tt, typed-hue)) $ pass1 ! (init ! 20 refl (tt, typed-saturation)) $ pass1 ! (init ! 18 refl (tt, typed-value)) $ pass1 ! (init ! 16 refl (tt, record { fits = w-fits })) $ pass1 ! (init ! 14 refl (tt, record { fits = h-fits })) $ pass1 ! (init ! 12 refl (tt, record { fits = s-fits })) $ pass1 ! (init ! 10 refl (tt, typed-ts)) $ pass0 ! $
+        pass1 ! (init ! 22 refl (tt, typed-hue)) $ pass1 ! (init ! 20 refl (tt, typed-saturation)) $ pass1 ! (init ! 18 refl (tt, typed-value)) $ pass1 ! (init ! 16 refl (tt, record { fits = w-fits })) $
+        pass1 ! (init ! 14 refl (tt, record { fits = h-fits })) $ pass1 ! (init ! 12 refl (tt, record { fits = s-fits })) $ pass1 ! (init ! 10 refl (tt, typed-ts)) $ pass0 ! $
         -- [_12; …; _0; …; the token; what the parameters own]
         assigns ! (of-opd ! (load ! (from ! (fld ! refl (stop !))) (look-in ! 22 (sub ! 1 refl (whole !))))) (from ! (stop !)) (init ! 6 refl (tt, typed-hue .1 .0)) $
         assigns ! (of-opd ! (load ! (from ! (fld ! refl (stop !))) (look-in ! 20 (sub ! 1 refl (whole !))))) (from ! (stop !)) (init ! 4 refl (tt, typed-saturation .1 .0)) $
@@ -150,7 +174,8 @@ module _ {M : Type 1} (𝓤 : URA M) (H : Heap 𝓤) (A : Atoms 𝓤) (W : Given
         assigns ! (agg ! (and-then ! (load ! (from ! (stop !)) (look ! 22 refl)) (and-then ! (load ! (from ! (stop !)) (look ! 20 refl)) (and-then ! (load ! (from ! (stop !)) (look ! 18 refl)) (and-then ! (load ! (from ! (stop !)) (look ! 16 refl)) (and-then ! (load ! (from ! (stop !)) (look ! 14 refl)) (and-then ! (load ! (from ! (stop !)) (look ! 12 refl)) (and-then ! (load ! (from ! (stop !)) (look ! 10 refl)) (no-more !))))))))) (from ! (stop !)) (init ! 0 refl (tt, (typed-hue, (typed-saturation, (typed-value, (record { fits = w-fits }, (record { fits = h-fits }, (record { fits = s-fits }, (typed-ts, tt))))))))) $
         assigns ! (agg ! (and-then ! (load ! (from ! (stop !)) (look ! 8 refl)) (and-then ! (load ! (from ! (stop !)) (look ! 0 refl)) (no-more !)))) (from ! (stop !)) (init ! 24 refl (tt, (record { fits = is .1 }, ((typed-hue, (typed-saturation, (typed-value, (record { fits = w-fits }, (record { fits = h-fits }, (record { fits = s-fits }, (typed-ts, tt))))))), tt)))) $
         returns ! (look ! 24 refl) $ forget ! 0 refl $ forget ! 2 refl $ forget ! 4 refl $ forget ! 6 refl $ forget ! 8 refl $ forget ! 10 refl $ forget ! 12 refl $ forget ! 14 refl $ forget ! 16 refl $ forget ! 18 refl $ forget ! 20 refl $ forget ! 22 refl $ forget ! 24 refl $
-        move ! (24 ∷ 25 ∷ []) $ free1 ! $ move ! (22 ∷ 23 ∷ []) $ free1 ! $ move ! (20 ∷ 21 ∷ []) $ free1 ! $ move ! (18 ∷ 19 ∷ []) $ free1 ! $ move ! (16 ∷ 17 ∷ []) $ free1 ! $ move ! (14 ∷ 15 ∷ []) $ free1 ! $ move ! (12 ∷ 13 ∷ []) $ free1 ! $ move ! (10 ∷ 11 ∷ []) $ free1 ! $ move ! (8 ∷ 9 ∷ []) $ free1 ! $ move ! (6 ∷ 7 ∷ []) $ free1 ! $ move ! (4 ∷ 5 ∷ []) $ free1 ! $ move ! (2 ∷ 3 ∷ []) $ free1 ! $ move ! (0 ∷ 1 ∷ []) $ free1 ! $ free0 ! $ by ! (exits n e (is .1)))))))))))))))))))
+        move ! (24 ∷ 25 ∷ []) $ free1 ! $ move ! (22 ∷ 23 ∷ []) $ free1 ! $ move ! (20 ∷ 21 ∷ []) $ free1 ! $ move ! (18 ∷ 19 ∷ []) $ free1 ! $ move ! (16 ∷ 17 ∷ []) $ free1 ! $ move ! (14 ∷ 15 ∷ []) $ free1 ! $ move ! (12 ∷ 13 ∷
+        []) $ free1 ! $ move ! (10 ∷ 11 ∷ []) $ free1 ! $ move ! (8 ∷ 9 ∷ []) $ free1 ! $ move ! (6 ∷ 7 ∷ []) $ free1 ! $ move ! (4 ∷ 5 ∷ []) $ free1 ! $ move ! (2 ∷ 3 ∷ []) $ free1 ! $ move ! (0 ∷ 1 ∷ []) $ free1 ! $ free0 ! $ by ! (exits n e (is .1)))))))))))))))))))
 
 module _ {M : Type 1} (𝓤 : URA M) (H : Heap 𝓤) (A : Atoms 𝓤) (W : Given 𝓤 H A) (mem : Memory → SProp 𝓤) (run : Routine → Fun 𝓤) where
   walks : (C : Calls 𝓤 H) (Λ : Loops 𝓤 H) → FmC 𝓤 H (W .laws) C → Triple 𝓤 (C #check) (Check 𝓤 H A mem run)
@@ -165,8 +190,17 @@ meets : {M : Type 1} (𝓤 : URA M) (H : Heap 𝓤) (A : Atoms 𝓤) (W : Given 
     → Triple 𝓤 (𝓣 .C #check) (Check 𝓤 H A mem run)
     → Meets 𝓤 H A it.signature (WpFn 𝓤 H (𝓣 .C) (𝓣 .Λ) code.function) (it.spec 𝓤 H A mem run)
 meets 𝓤 H A W mem run 𝓣 known =
-    walk-meets 𝓤 H A it.ended stayed W
-    (goes-none-slice 𝓤 H A W 1 (0 ∷ []) tt (plain (λ _. u8)) yes, (goes-none-slice 𝓤 H A W 1 (0 ∷ []) tt (plain (λ _. u8)) yes, (goes-none-slice 𝓤 H A W 1 (0 ∷ []) tt (plain (λ _. u8)) yes, (goes-none 𝓤 H A W 1 (λ _. u32) yes (λ κs x f. refl), (goes-none 𝓤 H A W 1 (λ _. u32) yes (λ κs x f. refl), (goes-none 𝓤 H A W 1 (λ _. u32) yes (λ κs x f. refl), (goes-none 𝓤 H A W 1 (λ _. Stamp.the-row) yes (λ κs x f. refl), tt)))))))
+    walk-meets 𝓤 H A it.ended stayed W (
+      goes-none-slice 𝓤 H A W 1 (0 ∷ []) tt (plain (λ _. u8)) yes,
+      (
+        goes-none-slice 𝓤 H A W 1 (0 ∷ []) tt (plain (λ _. u8)) yes,
+        (
+          goes-none-slice 𝓤 H A W 1 (0 ∷
+              []) tt (plain (λ _. u8)) yes,
+          (goes-none 𝓤 H A W 1 (λ _. u32) yes (λ κs x f. refl), (goes-none 𝓤 H A W 1 (λ _. u32) yes (λ κs x f. refl), (goes-none 𝓤 H A W 1 (λ _. u32) yes (λ κs x f. refl), (goes-none 𝓤 H A W 1 (λ _. Stamp.the-row) yes (λ κs x f. refl), tt)))),
+        ),
+      ),
+    )
     (it.clauses 𝓤 H A mem run) (WpFn 𝓤 H (𝓣 .C) (𝓣 .Λ) code.function) (WpFn-mono 𝓤 H (W .laws) 𝓣 code.function) (walks 𝓤 H A W mem run (𝓣 .C) (𝓣 .Λ) (fmOf 𝓤 H (W .laws) 𝓣) known)
 
 pub try-new-spec : {M : Type 1} → stated.statement M

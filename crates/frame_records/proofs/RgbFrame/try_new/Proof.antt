@@ -108,7 +108,8 @@ module _ {M : Type 1} (𝓤 : URA M) (H : Heap 𝓤) (A : Atoms 𝓤) (W : Given
   asked : ent 𝓤 (emp 𝓤) (Check 𝓤 H A mem run .pre to)
   asked =
       qed W (‵ ftrue ∷ []) ∵
-      nothing ! $ owned ! u32 (Is u32) (uint-makes 𝓤 H A W w32) stride _ (refl, s-fits) $ fjoin ! $ owned ! u32 (Is u32) (uint-makes 𝓤 H A W w32) height _ (refl, h-fits) $ fjoin ! $ owned ! u32 (Is u32) (uint-makes 𝓤 H A W w32) width _ (refl, w-fits) $ fjoin ! $ owned ! usize (Is usize) (uint-makes 𝓤 H A W w64) (length (now x)) _ (refl, typed-x .1 .0 .fits) $ fjoin ! $ move ! (1 ∷ 0 ∷ []) $ join ! $ frame ! $ done !
+      nothing ! $ owned ! u32 (Is u32) (uint-makes 𝓤 H A W w32) stride _ (refl, s-fits) $ fjoin ! $ owned ! u32 (Is u32) (uint-makes 𝓤 H A W w32) height _ (refl, h-fits) $ fjoin ! $
+      owned ! u32 (Is u32) (uint-makes 𝓤 H A W w32) width _ (refl, w-fits) $ fjoin ! $ owned ! usize (Is usize) (uint-makes 𝓤 H A W w64) (length (now x)) _ (refl, typed-x .1 .0 .fits) $ fjoin ! $ move ! (1 ∷ 0 ∷ []) $ join ! $ frame ! $ done !
 
   -- of the callee's `ensured`, the clause alone
   said : (n : ℕ) → ent 𝓤 (ensured 𝓤 H A check.ended (check.clauses 𝓤 H A mem run) tt (to .0 .3) tt n) (fact 𝓤 (n ≡ number))
@@ -120,7 +121,8 @@ module _ {M : Type 1} (𝓤 : URA M) (H : Heap 𝓤) (A : Atoms 𝓤) (W : Given
       suffices ! _ (ends-at 𝓤 H A it.ended stayed (it.clauses 𝓤 H A mem run) W (((κ, tt), (q, tt), tt, args, at), tt) (R′.lowered (answer n)) (answer n) (tt, (tt, (tt, (tt, (tt, tt))))) (tt, (tt, (tt, (tt, (tt, tt)))))) $ says ! (λ i. record { number = e i; frame = made }) $
       frame ! $ fsplit ! $ use1 W (‵ (Own x) ⊛ ‵ (Own x)) (shr-slice-copy 𝓤 H A W (named 0) κ u8 .twice x (val x ∷ [])) $ split ! $ move ! (0 ∷ 2 ∷ []) $ fjoin ! $ frame ! $
       -- [what the planes own]: with what the plain fields own it is what the record owns, and that with the number's what the answer owns
-      nothing ! $ owned ! Stamp.the-row (Is Stamp.the-row) (LL.makes Stamp.the-type Ts.the-plain 𝓤 H A) ts _ ts-is $ fjoin ! $ owned ! u32 (Is u32) (uint-makes 𝓤 H A W w32) stride _ (refl, s-fits) $ fjoin ! $ owned ! u32 (Is u32) (uint-makes 𝓤 H A W w32) height _ (refl, h-fits) $ fjoin ! $ owned ! u32 (Is u32) (uint-makes 𝓤 H A W w32) width _ (refl, w-fits) $ fjoin ! $ move ! (1 ∷ 0 ∷ []) $ fjoin ! $
+      nothing ! $ owned ! Stamp.the-row (Is Stamp.the-row) (LL.makes Stamp.the-type Ts.the-plain 𝓤 H A) ts _ ts-is $ fjoin ! $ owned ! u32 (Is u32) (uint-makes 𝓤 H A W w32) stride _ (refl, s-fits) $ fjoin ! $
+      owned ! u32 (Is u32) (uint-makes 𝓤 H A W w32) height _ (refl, h-fits) $ fjoin ! $ owned ! u32 (Is u32) (uint-makes 𝓤 H A W w32) width _ (refl, w-fits) $ fjoin ! $ move ! (1 ∷ 0 ∷ []) $ fjoin ! $
       use1 W (‵ (T.the-row (namedLft 1 0 tt (κ, tt)) .own made (T′.lowered made ∷ []))) (own-shut 𝓤 H A W (T.the-type (namedLft 1 0 tt (κ, tt))) (T′.the-laws (namedLft 1 0 tt (κ, tt))) args) $
       nothing ! $ move ! (1 ∷ 0 ∷ []) $ fjoin ! $ owned ! u32 (Is u32) (uint-makes 𝓤 H A W w32) n _ (refl, n-fits) $ fjoin ! $
       by ! (own-shut 𝓤 H A W (R.the-type (namedLft 1 0 tt (κ, tt))) (R′.the-laws (namedLft 1 0 tt (κ, tt))) (n, (made, tt)))
@@ -142,7 +144,8 @@ module _ {M : Type 1} (𝓤 : URA M) (H : Heap 𝓤) (A : Atoms 𝓤) (W : Given
         assigns ! (agg ! (and-then ! (load ! (from ! (stop !)) (look ! 14 refl)) (and-then ! (load ! (from ! (stop !)) (look ! 12 refl)) (and-then ! (load ! (from ! (stop !)) (look ! 10 refl)) (and-then ! (load ! (from ! (stop !)) (look ! 8 refl)) (and-then ! (load ! (from ! (stop !)) (look ! 6 refl)) (no-more !))))))) (from ! (stop !)) (init ! 0 refl (tt, (typed-x, (record { fits = w-fits }, (record { fits = h-fits }, (record { fits = s-fits }, (typed-ts, tt))))))) $
         assigns ! (agg ! (and-then ! (load ! (from ! (stop !)) (look ! 4 refl)) (and-then ! (load ! (from ! (stop !)) (look ! 0 refl)) (no-more !)))) (from ! (stop !)) (init ! 16 refl (tt, (record { fits = is .1 }, ((typed-x, (record { fits = w-fits }, (record { fits = h-fits }, (record { fits = s-fits }, (typed-ts, tt))))), tt)))) $
         returns ! (look ! 16 refl) $ forget ! 0 refl $ forget ! 2 refl $ forget ! 4 refl $ forget ! 6 refl $ forget ! 8 refl $ forget ! 10 refl $ forget ! 12 refl $ forget ! 14 refl $ forget ! 16 refl $
-        move ! (16 ∷ 17 ∷ []) $ free1 ! $ move ! (14 ∷ 15 ∷ []) $ free1 ! $ move ! (12 ∷ 13 ∷ []) $ free1 ! $ move ! (10 ∷ 11 ∷ []) $ free1 ! $ move ! (8 ∷ 9 ∷ []) $ free1 ! $ move ! (6 ∷ 7 ∷ []) $ free1 ! $ move ! (4 ∷ 5 ∷ []) $ free1 ! $ move ! (2 ∷ 3 ∷ []) $ free1 ! $ move ! (0 ∷ 1 ∷ []) $ free1 ! $ free0 ! $ by ! (exits n e (is .1)))))))))))))))
+        move ! (16 ∷ 17 ∷ []) $ free1 ! $ move ! (14 ∷ 15 ∷ []) $ free1 ! $ move ! (12 ∷ 13 ∷ []) $ free1 ! $ move ! (10 ∷ 11 ∷ []) $ free1 ! $ move ! (8 ∷ 9 ∷ []) $ free1 ! $ move ! (6 ∷ 7 ∷ []) $ free1 ! $ move ! (4 ∷ 5 ∷ []) $
+        free1 ! $ move ! (2 ∷ 3 ∷ []) $ free1 ! $ move ! (0 ∷ 1 ∷ []) $ free1 ! $ free0 ! $ by ! (exits n e (is .1)))))))))))))))
 
 module _ {M : Type 1} (𝓤 : URA M) (H : Heap 𝓤) (A : Atoms 𝓤) (W : Given 𝓤 H A) (mem : Memory → SProp 𝓤) (run : Routine → Fun 𝓤) where
   walks : (C : Calls 𝓤 H) (Λ : Loops 𝓤 H) → FmC 𝓤 H (W .laws) C → Triple 𝓤 (C #check) (Check 𝓤 H A mem run)
