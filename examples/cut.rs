@@ -1,0 +1,44 @@
+// Cuts a film of four frames of one pixel, with the content detector's default settings: a cut at 400000. Then the state and the
+// refusals, and the adaptive detector on a longer film.
+use mawerodu::{AdaptiveDetector, AdaptiveOptions, ContentDetector, ContentOptions, Refusal};
+
+const FILM: [(i64, u8); 4] = [(0, 0), (400000, 200), (900000, 0), (2000000, 0)];
+
+fn main() -> Result<(), Refusal> {
+    let mut detector = ContentDetector::new();
+    println!("frame,answer,cut");
+    for (i, (ts, luma)) in FILM.iter().enumerate() {
+        match detector.process_luma(&[*luma], 1, 1, 1, *ts) {
+            Ok(answer) => match answer.cut {
+                Some(cut) => println!("{i},0,{cut}"),
+                None => println!("{i},0,-"),
+            },
+            Err(Refusal(number)) => println!("{i},{number},-"),
+        }
+    }
+
+    // a refused frame changes nothing
+    let before = detector.state().to_vec();
+    assert_eq!(detector.process_luma(&[0], 2, 1, 2, 0), Err(Refusal(3)));
+    assert_eq!(detector.state(), before);
+    // words that are no record
+    assert_eq!(ContentDetector::from_state(&[0; 27]).err(), Some(Refusal(15)));
+    assert_eq!(ContentDetector::from_state(&before[..26]).err(), Some(Refusal(15)));
+    assert!(ContentDetector::from_state(&before).is_ok());
+    // settings
+    let even = ContentOptions { kernel_size: Some(4), ..ContentOptions::default() };
+    assert_eq!(ContentDetector::with_options(even).err(), Some(Refusal(8)));
+    let wide = AdaptiveOptions { window_width: 65, ..AdaptiveOptions::default() };
+    assert_eq!(AdaptiveDetector::with_options(wide).err(), Some(Refusal(11)));
+
+    let window = AdaptiveOptions { window_width: 1, ..AdaptiveOptions::default() };
+    let mut adaptive = AdaptiveDetector::with_options(window)?;
+    let mut cuts = Vec::new();
+    for (i, luma) in [10u8, 11, 12, 212, 213, 214, 215].iter().enumerate() {
+        if let Some(cut) = adaptive.process_luma(&[*luma], 1, 1, 1, i as i64 * 40000)?.cut {
+            cuts.push(cut);
+        }
+    }
+    println!("adaptive cuts {cuts:?}");
+    Ok(())
+}
