@@ -10,7 +10,8 @@
  * of the frame; longer memory is taken too, and what lies past these lengths is never written in the store and the state.
  * No two of the lent pieces of memory may overlap.
  *
- * State. A state is plain words: it may be copied, kept in a file and read again on another day. Its layout and version are those of
+ * State. A state is plain words: it may be copied, kept in a file and read again on another day, with its store. Without the store, clear
+ * it first: the next frame would be scored against other planes. Its layout and version are those of
  * crates/content_words/specs and crates/adaptive_words/specs (one word for each field; doubles as their bits, stamps in two's
  * complement). Words that are no record (another version, a flag over 1, too few words, ..) are refused by 15.
  *
