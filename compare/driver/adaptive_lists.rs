@@ -17,7 +17,7 @@ fn window_width(b: u8) -> u32 {
     }
 }
 
-fn options(r: &[u8]) -> Options {
+pub fn options(r: &[u8]) -> Options {
     Options::new()
         .with_adaptive_threshold(lists::threshold(r[0], r[1] as f64 / 64.0))
         .with_min_duration(lists::minimum(r))

@@ -2,7 +2,7 @@
 use crate::generator::Generator;
 use crate::lists::{self, Listed};
 use crate::table::Row;
-use crate::{rattle, rust};
+use crate::{rattle, rust, station};
 use core::time::Duration;
 use mediatime::Timestamp;
 use scenesdetect::{adaptive, content};
@@ -11,8 +11,8 @@ const MOST: u32 = 40;
 const KINDS: u32 = 4;
 const PADDINGS: [u32; 5] = [0, 1, 2, 3, 9];
 
-pub fn rows() -> Vec<Row> {
-    vec![
+pub fn rows(which: Lists) -> Vec<Row> {
+    let mut rows = vec![
         pixels(),
         bgr_to_hsv_planes(),
         copy_plane(),
@@ -25,9 +25,10 @@ pub fn rows() -> Vec<Row> {
         sides(),
         since(),
         subtracted(),
-        content_lists(),
-        adaptive_lists(),
-    ]
+    ];
+    rows.extend(content_lists(which));
+    rows.extend(adaptive_lists(which));
+    rows
 }
 
 fn pixels() -> Row {
@@ -388,58 +389,78 @@ impl Random {
     }
 }
 
-const LISTS: u64 = 250_000;
-const ADAPTIVE_LISTS: u64 = 200_000;
+/// Which lists are compared: the seed that their bytes come from, and how many of each kind there are.
+#[derive(Clone, Copy)]
+pub struct Lists {
+    pub seed: u64,
+    pub content: u64,
+    pub adaptive: u64,
+}
 
-/// The proved side of a list, which writes to lent memory.
-type List = for<'a> fn(&[u8], &'a mut [u8]) -> &'a [u8];
+/// A side of a list that writes to lent memory, as one that gives what it wrote.
+fn written(list: for<'a> fn(&[u8], &'a mut [u8]) -> &'a [u8]) -> impl FnMut(&[u8]) -> Vec<u8> {
+    let mut out = vec![0; LONG as usize * 6700];
+    move |script| list(script, &mut out).to_vec()
+}
 
 /// Whole lists of calls: all that each call brings. Of a list that differs the calls behind the first that shows it
 /// are left out. Each list's detector is shown at its end.
-fn whole_lists<D: Listed>(row: &mut Row, counts: impl Iterator<Item = u64>, rattle: List, mut seen: impl FnMut(&D)) {
-    let mut random = Random(6);
-    let mut out = vec![0; LONG as usize * 6700];
+fn whole_lists<D: Listed>(
+    row: &mut Row,
+    seed: u64,
+    counts: impl Iterator<Item = u64>,
+    mut rattle: impl FnMut(&[u8]) -> Vec<u8>,
+    mut seen: impl FnMut(&D),
+) {
+    let mut random = Random(seed);
     for count in counts {
         let mut script: Vec<u8> = (0..=count).flat_map(|_| random.record()).collect();
         let (mut expected, detector) = lists::run::<D>(&script);
         seen(&detector);
-        if expected != rattle(&script, &mut out) {
-            script = shortest::<D>(&script, rattle, &mut out);
+        let mut found = rattle(&script);
+        if expected != found {
+            script = shortest::<D>(&script, &mut rattle);
             expected = lists::run::<D>(&script).0;
+            found = rattle(&script);
         }
-        let found = rattle(&script, &mut out);
         let input = || format!("records of 16 bytes {script:?}");
-        row.compare(script.len() as u64, input, &expected[..], found);
+        row.compare(script.len() as u64, input, &expected[..], &found[..]);
     }
 }
 
 /// The shortest start of a list that shows a difference.
-fn shortest<D: Listed>(script: &[u8], rattle: List, out: &mut [u8]) -> Vec<u8> {
+fn shortest<D: Listed>(script: &[u8], rattle: &mut impl FnMut(&[u8]) -> Vec<u8>) -> Vec<u8> {
     let starts = (lists::RECORD..=script.len()).step_by(lists::RECORD).map(|n| &script[..n]);
-    let mut differing = starts.filter(|start| lists::run::<D>(start).0 != rattle(start, out));
+    let mut differing = starts.filter(|start| lists::run::<D>(start).0 != rattle(start));
     differing.next().expect("the whole list differs").to_vec()
 }
 
-/// Lists of 1 to 24 calls.
-fn content_lists() -> Row {
-    let mut row = Row::new("whole lists of content calls");
-    let counts = (0..LISTS).map(|list| list % 24 + 1);
-    whole_lists::<content::Detector>(&mut row, counts.clone(), rattle::content_list, |_| ());
-    println!("{LISTS} lists of content calls, {} calls", counts.sum::<u64>());
-    row
+/// Lists of 1 to 24 calls, on the records and through the station library.
+fn content_lists(which: Lists) -> [Row; 2] {
+    let counts = (0..which.content).map(|list| list % 24 + 1);
+    println!("{} lists of content calls, {} calls", which.content, counts.clone().sum::<u64>());
+    let mut records = Row::new("whole lists of content calls");
+    let mut words = Row::new("the same through the station library");
+    let seed = which.seed;
+    whole_lists::<content::Detector>(&mut records, seed, counts.clone(), written(rattle::content_list), |_| ());
+    whole_lists::<content::Detector>(&mut words, seed, counts, station::content_list, |_| ());
+    [records, words]
 }
 
 /// Calls of a long list of adaptive calls, in which wide windows fill: one list in sixteen is one.
 const LONG: u64 = 240;
 
-fn adaptive_lists() -> Row {
-    let mut row = Row::new("whole lists of adaptive calls");
-    let counts = (0..ADAPTIVE_LISTS).map(|list| if list % 16 == 15 { LONG } else { list % 24 + 1 });
+fn adaptive_lists(which: Lists) -> [Row; 2] {
+    let counts = (0..which.adaptive).map(|list| if list % 16 == 15 { LONG } else { list % 24 + 1 });
+    println!("{} lists of adaptive calls, {} calls", which.adaptive, counts.clone().sum::<u64>());
+    let mut records = Row::new("whole lists of adaptive calls");
+    let mut words = Row::new("the same through the station library");
+    let seed = which.seed;
     let mut full = [0; 65];
-    whole_lists(&mut row, counts.clone(), rattle::adaptive_list, |detector: &adaptive::Detector| {
+    whole_lists(&mut records, seed, counts.clone(), written(rattle::adaptive_list), |detector: &adaptive::Detector| {
         full[detector.options().window_width() as usize] += detector.last_adaptive_ratio().is_some() as u64;
     });
-    println!("{ADAPTIVE_LISTS} lists of adaptive calls, {} calls", counts.sum::<u64>());
     println!("lists with a full window at their end, by its width from 1 to 64: {:?}", &full[1..]);
-    row
+    whole_lists::<adaptive::Detector>(&mut words, seed, counts, station::adaptive_list, |_| ());
+    [records, words]
 }

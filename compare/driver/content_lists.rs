@@ -4,7 +4,7 @@ use mediatime::Timestamp;
 use scenesdetect::content::{Detector, Error, FilterMode, Options};
 use scenesdetect::frame::{HsvFrame, LumaFrame, RgbFrame};
 
-fn options(r: &[u8]) -> Options {
+pub fn options(r: &[u8]) -> Options {
     Options::new()
         .with_threshold(lists::threshold(r[0], r[1] as f64 / 4.0))
         .with_min_duration(lists::minimum(r))

@@ -10,9 +10,9 @@ use scenesdetect::frame::{HsvFrame, LumaFrame, RgbFrame};
 
 /// Bytes of a record, and of the store that the lists lend.
 pub const RECORD: usize = 16;
-const STORE: usize = 6528;
+pub const STORE: usize = 6528;
 /// Bytes of the store that are shown behind the planes.
-const BEHIND: usize = 16;
+pub const BEHIND: usize = 16;
 
 /// A detector as the lists call it.
 pub trait Listed: Sized {
@@ -171,13 +171,13 @@ fn turned(clock: u64, r: &[u8]) -> u64 {
 }
 
 /// What a frame call is lent.
-struct Frame {
-    width: u32,
-    height: u32,
-    stride: u32,
+pub struct Frame {
+    pub width: u32,
+    pub height: u32,
+    pub stride: u32,
     need: usize,
     /// Bytes of the three planes, of store and scratch, and magnitudes.
-    lent: [usize; 6],
+    pub lent: [usize; 6],
 }
 
 fn frame((width, height): (u32, u32), r: &[u8]) -> Frame {
@@ -214,14 +214,63 @@ fn memory_refusal(f: &Frame) -> u32 {
     short.map_or(0, |i| 12 + i as u32)
 }
 
-/// A list on its way: the detector, the planes that the frames are taken from, the store as it is to be, and what
-/// the calls brought.
-struct Run<D> {
-    detector: D,
-    planes: [Vec<u8>; 3],
-    store: Vec<u8>,
+/// The film of a list: the planes that its frames are taken from, their size, and the clock.
+pub struct Film {
+    pub planes: [Vec<u8>; 3],
     size: (u32, u32),
     clock: u64,
+}
+
+impl Film {
+    pub fn new(r: &[u8]) -> Self {
+        Film {
+            planes: [(); 3].map(|_| vec![0; 5120]),
+            size: (side(r[12]), side(r[13])),
+            clock: i64::MAX as u64,
+        }
+    }
+
+    /// The size and the clock of the call that a record describes.
+    pub fn turn(&mut self, r: &[u8]) {
+        if r[3] % 16 == 0 {
+            self.size = (side(r[4]), side(r[5]));
+        }
+        self.clock = turned(self.clock, r);
+    }
+
+    pub fn stamp(&self) -> i64 {
+        (i64::MAX as i128 - self.clock as i128) as i64
+    }
+
+    /// What its frame call is lent, once the planes' first bytes are renewed.
+    pub fn frame(&mut self, r: &[u8]) -> Frame {
+        let f = frame(self.size, r);
+        let count = match r[9] % 4 {
+            0 => 0,
+            1 => f.need.min(r[10] as usize),
+            _ => f.need,
+        };
+        let mut generator = Generator(r[11] as u32 * 256 + r[12] as u32);
+        for plane in &mut self.planes {
+            match r[8] % 8 {
+                kind @ 0..=3 => plane[..count].copy_from_slice(&generator.shades(count, kind as u32)),
+                _ => plane[..count].fill(generator.byte()),
+            }
+        }
+        f
+    }
+}
+
+/// Whether a call is handed a bad record.
+pub fn is_bad(r: &[u8]) -> bool {
+    r[13] % 32 == 1
+}
+
+/// A list on its way: the detector, the film, the store as it is to be, and what the calls brought.
+struct Run<D> {
+    detector: D,
+    film: Film,
+    store: Vec<u8>,
     out: Output,
 }
 
@@ -231,22 +280,12 @@ impl<D: Listed> Run<D> {
         let (number, detector) = D::settled(r);
         let mut out = Output::default();
         out.word(number);
-        Run {
-            detector,
-            planes: [(); 3].map(|_| vec![0; 5120]),
-            store: vec![0; STORE],
-            size: (side(r[12]), side(r[13])),
-            clock: i64::MAX as u64,
-            out,
-        }
+        Run { detector, film: Film::new(r), store: vec![0; STORE], out }
     }
 
     fn call(&mut self, r: &[u8]) {
-        if r[3] % 16 == 0 {
-            self.size = (side(r[4]), side(r[5]));
-        }
-        self.clock = turned(self.clock, r);
-        let bad = r[13] % 32 == 1;
+        self.film.turn(r);
+        let bad = is_bad(r);
         if !D::is_clear(r) {
             self.frame_call(r, bad);
         } else if bad {
@@ -257,27 +296,10 @@ impl<D: Listed> Run<D> {
         }
     }
 
-    /// Renews the planes' first bytes.
-    fn refill(&mut self, r: &[u8], need: usize) {
-        let count = match r[9] % 4 {
-            0 => 0,
-            1 => need.min(r[10] as usize),
-            _ => need,
-        };
-        let mut generator = Generator(r[11] as u32 * 256 + r[12] as u32);
-        for plane in &mut self.planes {
-            match r[8] % 8 {
-                kind @ 0..=3 => plane[..count].copy_from_slice(&generator.shades(count, kind as u32)),
-                _ => plane[..count].fill(generator.byte()),
-            }
-        }
-    }
-
     fn frame_call(&mut self, r: &[u8], bad: bool) {
-        let f = frame(self.size, r);
-        self.refill(r, f.need);
+        let f = self.film.frame(r);
         let (w, h, stride) = (f.width, f.height, f.stride);
-        let [a, b, c] = [0, 1, 2].map(|i| &self.planes[i][..f.lent[i]]);
+        let [a, b, c] = [0, 1, 2].map(|i| &self.film.planes[i][..f.lent[i]]);
         let frame = match r[0] % 32 {
             0..=10 => rust::check_luma(a, w, h, stride),
             11..=20 => rust::check_bgr(a, w, h, stride),
@@ -293,7 +315,7 @@ impl<D: Listed> Run<D> {
         if number != 0 {
             return self.answer(number, None, false);
         }
-        let ts = Timestamp::from_micros((i64::MAX as i128 - self.clock as i128) as i64);
+        let ts = Timestamp::from_micros(self.film.stamp());
         let detector = &mut self.detector;
         let cut = match r[0] % 32 {
             0..=10 => detector.luma(LumaFrame::try_new(a, w, h, stride, ts).unwrap()),

@@ -1,8 +1,8 @@
 //! Compares the proved functions with the Rust. `compare/run` builds and starts it; README.md says what it does.
 //!
-//! driver ROOT            compares; ROOT is the repository's root
-//! driver ROOT --write    writes the replay programs' stored outputs anew
-//! driver ROOT --time     times both sides
+//! driver ROOT [--seed N] [--count N]    compares; ROOT is the repository's root
+//! driver ROOT --write                   writes the replay programs' stored outputs anew
+//! driver ROOT --time                    times both sides
 mod adaptive_lists;
 #[cfg(rattle)]
 mod compare;
@@ -16,6 +16,8 @@ mod rattle;
 mod replay;
 mod replay_filter;
 mod rust;
+#[cfg(rattle)]
+mod station;
 mod table;
 #[cfg(rattle)]
 mod time;
@@ -53,9 +55,21 @@ fn replays(root: &Path) -> table::Row {
     row
 }
 
+/// The number after a word, or another where the word is not there.
 #[cfg(rattle)]
-fn rows(root: &Path) -> Vec<table::Row> {
-    let mut rows = compare::rows();
+fn number(words: &[String], word: &str, other: u64) -> u64 {
+    let Some(place) = words.iter().position(|w| w == word) else { return other };
+    words.get(place + 1).and_then(|n| n.parse().ok()).unwrap_or_else(|| panic!("{word} wants a number"))
+}
+
+#[cfg(rattle)]
+fn rows(root: &Path, words: &[String]) -> Vec<table::Row> {
+    let which = compare::Lists {
+        seed: number(words, "--seed", 6),
+        content: number(words, "--count", 250_000),
+        adaptive: number(words, "--count", 200_000),
+    };
+    let mut rows = compare::rows(which);
     rows.extend(edges::rows());
     rows.push(replays(root));
     rows
@@ -63,7 +77,7 @@ fn rows(root: &Path) -> Vec<table::Row> {
 
 /// Built without the archive: the stored outputs alone.
 #[cfg(not(rattle))]
-fn rows(root: &Path) -> Vec<table::Row> {
+fn rows(root: &Path, _: &[String]) -> Vec<table::Row> {
     println!("built without the Rattle side: only the stored outputs are compared");
     vec![replays(root)]
 }
@@ -79,5 +93,5 @@ fn main() -> ExitCode {
         time::print();
         return ExitCode::SUCCESS;
     }
-    if table::print(&rows(root)) { ExitCode::SUCCESS } else { ExitCode::FAILURE }
+    if table::print(&rows(root, &words)) { ExitCode::SUCCESS } else { ExitCode::FAILURE }
 }

@@ -1,72 +1,217 @@
-//! Both sides timed on one frame, in nanoseconds per pixel: the best of several runs, on the scalar path of the Rust.
+//! Both sides timed in one run, in nanoseconds per pixel: the best of several calls, on the scalar path of the Rust.
+//! Whole frame calls go through the station library, with memory that was written before. The frames of a call come
+//! in turn, so that each differs from the one before.
 use crate::generator::Generator;
+use crate::station::{ADAPTIVE, CONTENT, Functions, Station};
 use crate::{rattle, rust};
+use mediatime::Timestamp;
+use scenesdetect::content::{Components, DEFAULT_WEIGHTS};
+use scenesdetect::frame::{HsvFrame, LumaFrame, RgbFrame};
+use scenesdetect::{adaptive, content};
 use std::hint::black_box;
 use std::time::Instant;
 
-const WIDTH: u32 = 1920;
-const HEIGHT: u32 = 1080;
 const RUNS: u32 = 15;
+const SIZES: [(u32, u32); 2] = [(640, 480), (1920, 1080)];
 
-fn best(mut run: impl FnMut()) -> f64 {
+/// The least time of a call, in nanoseconds per pixel. The first two calls are not counted.
+fn best(n: usize, mut call: impl FnMut(usize)) -> f64 {
     let mut least = f64::INFINITY;
-    for _ in 0..RUNS {
+    for i in 0..RUNS as usize + 2 {
         let start = Instant::now();
-        run();
-        least = least.min(start.elapsed().as_nanos() as f64);
+        call(i);
+        let time = start.elapsed().as_nanos() as f64;
+        least = if i < 2 { least } else { least.min(time) };
     }
-    least / (WIDTH as f64 * HEIGHT as f64)
+    least / n as f64
 }
 
 fn row(name: &str, rust: f64, rattle: f64) {
-    println!("{name:<20} {rust:>8.2} {rattle:>8.2}");
+    println!("{name:<36} {rust:>8.2} {rattle:>8.2} {:>8.3}", rattle / rust);
 }
 
-pub fn print() {
-    let n = (WIDTH * HEIGHT) as usize;
+/// Two frames of one size: BGR, whose first n bytes are the luma and whose three thirds are the HSV planes.
+struct Film {
+    width: u32,
+    height: u32,
+    frames: [Vec<u8>; 2],
+}
+
+impl Film {
+    /// Every byte random.
+    fn noise(width: u32, height: u32) -> Self {
+        let mut generator = Generator(5);
+        let frames = [(); 2].map(|_| generator.shades(3 * (width * height) as usize, 0));
+        Film { width, height, frames }
+    }
+
+    /// Two gradients with discs of other colours, and faint noise.
+    fn smooth(width: u32, height: u32) -> Self {
+        let mut generator = Generator(5);
+        let frames = [0, 40].map(|shift| {
+            let places = (0..height).flat_map(|y| (0..width).map(move |x| (x, y)));
+            places.flat_map(|(x, y)| smooth_pixel(x + shift, y + shift, width, height, &mut generator)).collect()
+        });
+        Film { width, height, frames }
+    }
+
+    fn n(&self) -> usize {
+        (self.width * self.height) as usize
+    }
+
+    fn planes(&self, i: usize) -> [&[u8]; 3] {
+        let (n, frame) = (self.n(), &self.frames[i % 2]);
+        [&frame[..n], &frame[n..2 * n], &frame[2 * n..]]
+    }
+}
+
+fn smooth_pixel(x: u32, y: u32, width: u32, height: u32, generator: &mut Generator) -> [u8; 3] {
+    let (dx, dy) = ((x % 320) as i32 - 160, (y % 240) as i32 - 120);
+    let lit = if dx * dx + dy * dy < 80 * 80 { 90 } else { 0 };
+    let across = 140 * x / (width + 40);
+    let down = 140 * y / (height + 40);
+    [across + lit, down + 20, 160 - across / 2].map(|level| level as u8 + generator.byte() % 3)
+}
+
+fn stamp(i: usize) -> Timestamp {
+    Timestamp::from_micros(i as i64 * 40_000)
+}
+
+#[derive(Clone, Copy)]
+enum Kind {
+    Luma,
+    Bgr,
+    Hsv,
+}
+
+/// A detector of the Rust.
+enum Rust {
+    Content(content::Detector),
+    Adaptive(adaptive::Detector),
+}
+
+macro_rules! either {
+    ($self:expr, $call:ident, $frame:expr) => {
+        match $self {
+            Rust::Content(detector) => detector.$call($frame.unwrap()),
+            Rust::Adaptive(detector) => detector.$call($frame.unwrap()),
+        }
+    };
+}
+
+impl Rust {
+    fn call(&mut self, kind: Kind, film: &Film, i: usize) {
+        let (w, h) = (film.width, film.height);
+        let [a, b, c] = film.planes(i);
+        black_box(match kind {
+            Kind::Luma => either!(self, process_luma, LumaFrame::try_new(a, w, h, w, stamp(i))),
+            Kind::Bgr => either!(self, process_bgr, RgbFrame::try_new(&film.frames[i % 2], w, h, 3 * w, stamp(i))),
+            Kind::Hsv => either!(self, process_hsv, HsvFrame::try_new(a, b, c, w, h, w, stamp(i))),
+        });
+    }
+}
+
+fn station_call(station: &mut Station, functions: &Functions, kind: Kind, film: &Film, i: usize) {
+    let (w, h, ts) = (film.width, film.height, stamp(i).micros());
+    let planes = film.planes(i);
+    let number = match kind {
+        Kind::Luma => station.frame(functions.luma(), planes[0], w, h, w, ts),
+        Kind::Bgr => station.frame(functions.bgr(), &film.frames[i % 2], w, h, 3 * w, ts),
+        Kind::Hsv => station.hsv(functions.hsv(), planes, w, h, w, ts),
+    };
+    assert_eq!(number, 0);
+}
+
+/// One kind of call on one film, by both sides.
+fn both(name: &str, kind: Kind, film: &Film, mut rust: Rust, station: (u32, Station), functions: &Functions) {
+    let mut station = station.1.sized(film.width, film.height);
+    row(
+        name,
+        best(film.n(), |i| rust.call(kind, film, i)),
+        best(film.n(), |i| station_call(&mut station, functions, kind, film, i)),
+    );
+}
+
+fn content_calls(name: &str, kind: Kind, film: &Film, weights: Components, k: Option<u32>) {
+    let options = content::Options::new().with_weights(weights).with_kernel_size(k).with_simd(false);
+    let rust = Rust::Content(content::Detector::new(options.clone()));
+    both(name, kind, film, rust, Station::content(&options), &CONTENT);
+}
+
+fn adaptive_calls(name: &str, kind: Kind, film: &Film) {
+    let options = adaptive::Options::new().with_simd(false);
+    let rust = Rust::Adaptive(adaptive::Detector::new(options.clone()));
+    both(name, kind, film, rust, Station::adaptive(&options), &ADAPTIVE);
+}
+
+fn frame_calls(film: &Film, picture: &str) {
+    let edges = Components::new(1.0, 1.0, 1.0, 1.0);
+    println!("\n{:<36} {:>8} {:>8} {:>8}", format!("{} x {}, {picture}", film.width, film.height), "Rust", "Rattle", "ratio");
+    content_calls("BGR, default weights", Kind::Bgr, film, DEFAULT_WEIGHTS, None);
+    content_calls("BGR, edges", Kind::Bgr, film, edges, None);
+    content_calls("HSV, default weights", Kind::Hsv, film, DEFAULT_WEIGHTS, None);
+    content_calls("luma", Kind::Luma, film, DEFAULT_WEIGHTS, None);
+    content_calls("luma, edges", Kind::Luma, film, edges, None);
+    for k in [3, 13, 101] {
+        content_calls(&format!("luma, edges, k {k}"), Kind::Luma, film, edges, Some(k));
+    }
+    adaptive_calls("adaptive, BGR, default weights", Kind::Bgr, film);
+}
+
+/// The stages of a call, by their own functions, on noise.
+fn stages(width: u32, height: u32) {
+    let n = (width * height) as usize;
     let mut generator = Generator(5);
     let bgr = generator.shades(3 * n, 0);
     let (a, b) = (generator.shades(n, 0), generator.shades(n, 0));
     let mut planes = vec![0; 3 * n];
     let (mut mag, mut dir, mut packed) = (vec![0; n], vec![0; n], vec![0; n]);
-    println!("{WIDTH} x {HEIGHT}, nanoseconds per pixel, best of {RUNS}");
-    println!("{:<20} {:>8} {:>8}", "", "Rust", "Rattle");
+    println!("\n{:<36} {:>8} {:>8} {:>8}", format!("{width} x {height}, noise, stages"), "Rust", "Rattle", "ratio");
     row(
         "bgr_to_hsv_planes",
-        best(|| rust::bgr_to_hsv_planes_into(black_box(&mut planes), black_box(&bgr), WIDTH, HEIGHT, 3 * WIDTH)),
-        best(|| {
-            rattle::bgr_to_hsv_planes(black_box(&mut planes), black_box(&bgr), WIDTH, HEIGHT, 3 * WIDTH);
+        best(n, |_| rust::bgr_to_hsv_planes_into(black_box(&mut planes), black_box(&bgr), width, height, 3 * width)),
+        best(n, |_| {
+            rattle::bgr_to_hsv_planes(black_box(&mut planes), black_box(&bgr), width, height, 3 * width);
         }),
     );
     row(
         "copy_plane",
-        best(|| rust::copy_plane_into(black_box(&mut packed), black_box(&a), WIDTH, HEIGHT, WIDTH)),
-        best(|| {
-            rattle::copy_plane(black_box(&mut packed), black_box(&a), WIDTH, HEIGHT, WIDTH);
+        best(n, |_| rust::copy_plane_into(black_box(&mut packed), black_box(&a), width, height, width)),
+        best(n, |_| {
+            rattle::copy_plane(black_box(&mut packed), black_box(&a), width, height, width);
         }),
     );
     row(
         "mean_abs_diff",
-        best(|| {
+        best(n, |_| {
             black_box(rust::mean_abs_diff(black_box(&a), black_box(&b)));
         }),
-        best(|| {
+        best(n, |_| {
             black_box(rattle::mean_abs_diff(black_box(&a), black_box(&b)));
         }),
     );
     row(
         "sobel",
-        best(|| rust::sobel_into(black_box(&mut mag), black_box(&mut dir), black_box(&a), WIDTH, HEIGHT)),
-        best(|| {
-            rattle::sobel(black_box(&mut mag), black_box(&mut dir), black_box(&a), WIDTH, HEIGHT);
+        best(n, |_| rust::sobel_into(black_box(&mut mag), black_box(&mut dir), black_box(&a), width, height)),
+        best(n, |_| {
+            rattle::sobel(black_box(&mut mag), black_box(&mut dir), black_box(&a), width, height);
         }),
     );
-    let mut edges = rust::edge_detector(WIDTH, HEIGHT, 13);
+    let mut edges = rust::edge_detector(width, height, 13);
     row(
         "edge_plane, k 13",
-        best(|| rust::edge_plane_again(black_box(&mut edges), black_box(&a))),
-        best(|| {
-            rattle::edge_plane(black_box(&mut packed), black_box(&mut mag), black_box(&a), WIDTH, HEIGHT, 13);
+        best(n, |_| rust::edge_plane_again(black_box(&mut edges), black_box(&a))),
+        best(n, |_| {
+            rattle::edge_plane(black_box(&mut packed), black_box(&mut mag), black_box(&a), width, height, 13);
         }),
     );
+}
+
+pub fn print() {
+    println!("nanoseconds per pixel, best of {RUNS}");
+    for (width, height) in SIZES {
+        frame_calls(&Film::noise(width, height), "noise");
+        frame_calls(&Film::smooth(width, height), "smooth");
+    }
+    stages(1920, 1080);
 }
