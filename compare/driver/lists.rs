@@ -223,11 +223,7 @@ pub struct Film {
 
 impl Film {
     pub fn new(r: &[u8]) -> Self {
-        Film {
-            planes: [(); 3].map(|_| vec![0; 5120]),
-            size: (side(r[12]), side(r[13])),
-            clock: i64::MAX as u64,
-        }
+        Film { planes: [(); 3].map(|_| vec![0; 5120]), size: (side(r[12]), side(r[13])), clock: i64::MAX as u64 }
     }
 
     /// The size and the clock of the call that a record describes.
