@@ -1,5 +1,5 @@
 // Frames as records that hold the caller's planes. A constructor checks by 1 to 5, and a reader shows a field. The functions
-// that work take the planes as plain parameters: a frame call checks again, so no caller has to trust a record.
+// that work take the planes as plain parameters: a frame call checks again, so it trusts no record.
 ghost use mathlib.Core.Path.{_≡_};
 ghost use Rattle.frame_records.specs.Frames.{lumaFrame, rgbFrame, hsvFrame};
 use timestamp::Timestamp;
@@ -13,7 +13,7 @@ pub struct LumaFrame<'a> {
     pub timestamp: Timestamp,
 }
 
-// Packed pixels, three bytes each. Row y starts at byte y × stride.
+// Packed pixels, three bytes each, which the detectors read as blue, green, red. Row y starts at byte y × stride.
 pub struct RgbFrame<'a> {
     pub data: &'a [u8],
     pub width: u32,
@@ -47,6 +47,13 @@ pub struct RgbFrameResult<'a> {
 pub struct HsvFrameResult<'a> {
     pub number: u32,
     pub frame: HsvFrame<'a>,
+}
+
+// Bytes of a packed pixel, by the constant that is named as the Rust's.
+pub fn bytes_per_pixel() -> u32
+    ensures { λ r. ⌜ r ≡ 3 ⌝ }
+{
+    RgbFrame::BYTES_PER_PIXEL
 }
 
 impl<'a> LumaFrame<'a> {
