@@ -1,0 +1,22 @@
+-- `decimal::put_byte` meets its contract. Assumes nothing.
+use mathlib.Core.Path.{refl}
+use native.Mathlib.Omega.{arith}
+use borrow.Author.Needs.{needs}
+use Rattle.decimal.proofs.Writes.{placed-byte}
+use Rattle.decimal.proofs.put_byte.Statement.{statement}
+use Rattle.decimal.proofs.put_byte.Tie as tie
+
+slice-write-out : tie.Need-slice-write-out
+slice-write-out c = search needs
+
+add-result : tie.Need-add-result
+add-result c = search needs
+
+same-length : tie.Need-same-length
+same-length c = search needs
+
+returns : tie.Need-returns
+returns c = (placed-byte (c .args .out .now) (c .args .at) (c .args .b) (omega arith), refl)
+
+pub put-byte-spec : {M : Type 1} → statement M
+put-byte-spec = tie.close (tie.spec slice-write-out add-result same-length returns)

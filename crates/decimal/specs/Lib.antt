@@ -1,0 +1,4 @@
+pub mod Parts
+pub mod Reading
+pub mod Writing
+pub mod Placed

@@ -1,0 +1,58 @@
+-- Document 01, the session program's lines: "`stamp,width,height` and then the luma values, all decimal, parted by commas".
+use mathlib.Core.Bool.{Bool, true, false, cond, _&&_}
+use mathlib.Core.List.{List, [], _∷_, map}
+use Prim.Native.Nat.{ℕ, _*_}
+use lib.Dec.{eqb, leb}
+use lib.IntN.{pos}
+use lib.ListN.{length}
+use Rattle.decimal.specs.Parts.{parted}
+use Rattle.decimal.specs.Reading.{isUpTo, isStamp, number, stampOf}
+use Rattle.frame_line.specs.declared.FrameLine.{FrameLine}
+
+-- each value is one of at most 255
+unfoldable pub allValues : List (List ℕ) → Bool
+allValues [] = true
+allValues (v ∷ vs) = isUpTo 255 v && allValues vs
+
+-- stamp, width, height and values: a stamp inside 64 bits, sides inside 32, at most 1,024 pixels, as many values as pixels
+unfoldable pub isFrameOf : List (List ℕ) → Bool
+isFrameOf [] = false
+isFrameOf (s ∷ []) = false
+isFrameOf (s ∷ w ∷ []) = false
+isFrameOf (s ∷ w ∷ h ∷ vs) =
+    isStamp s &&
+    (isUpTo 4294967295 w &&
+    (isUpTo 4294967295 h &&
+    (leb (number w * number h) 1024 &&
+    (eqb (length vs) (number w * number h) &&
+    allValues vs))))
+
+-- the fields of a line
+abbrev pub fields : List ℕ → List (List ℕ)
+fields line = parted 44 line
+
+-- whether a line is a frame line; 16 where it is not. 8,192 bytes at most, the line feed not counted
+unfoldable pub isFrame : List ℕ → Bool
+isFrame line = leb (length line) 8192 && isFrameOf (fields line)
+
+-- no frame
+abbrev pub noFrame : FrameLine
+noFrame = record { «is_frame» = false; stamp = record { micros = pos 0 }; width = 0; height = 0 }
+
+-- the stamp and the sides that the fields of a frame line say
+unfoldable pub frameOf : List (List ℕ) → FrameLine
+frameOf [] = noFrame
+frameOf (s ∷ []) = noFrame
+frameOf (s ∷ w ∷ []) = noFrame
+frameOf (s ∷ w ∷ h ∷ vs) = record { «is_frame» = true; stamp = record { micros = stampOf s }; width = number w; height = number h }
+
+-- the luma values that they say
+unfoldable pub lumaOf : List (List ℕ) → List ℕ
+lumaOf [] = []
+lumaOf (s ∷ []) = []
+lumaOf (s ∷ w ∷ []) = []
+lumaOf (s ∷ w ∷ h ∷ vs) = map number vs
+
+-- what a line says: its frame, or none
+unfoldable pub lineOf : List ℕ → FrameLine
+lineOf line = cond (isFrame line) (frameOf (fields line)) noFrame
