@@ -1,0 +1,4 @@
+pub mod Output
+pub mod Feeding
+pub mod Sessions
+pub mod Promises

@@ -1,0 +1,76 @@
+-- Document 01, the session program: from the bytes of the whole input to the bytes of the whole output.
+use mathlib.Core.Bool.{cond}
+use mathlib.Core.List.{List, [], _∷_, _++_}
+use Prim.Native.Nat.{ℕ, suc}
+use lib.Dec.{ltb}
+use lib.IntN.{pos}
+use lib.ListN.{replicate}
+use Rattle.timestamp.specs.declared.MaybeTimestamp.{MaybeTimestamp}
+use Rattle.timestamp.specs.declared.MaybeTimestamp.the-variants.{None, At}
+use Rattle.content.specs.declared.Detector.{Detector}
+use Rattle.content.specs.declared.Answer.{Answer}
+use Rattle.content.specs.Options.{defaults}
+use Rattle.content.specs.State.{fresh, refusedAnswer}
+use Rattle.content_calls.specs.Call.{Outcome, called, luma, memory}
+use Rattle.decimal.specs.Parts.{parted}
+use Rattle.decimal.specs.Writing.{decimal, stampText}
+use Rattle.frame_line.specs.Line.{isFrame, fields, lineOf, lumaOf}
+
+-- the parts between line feeds. "Nothing after the last line feed is no line"
+unfoldable pub ended : List (List ℕ) → List (List ℕ)
+ended [] = []
+ended ([] ∷ []) = []
+ended ((b ∷ bs) ∷ []) = (b ∷ bs) ∷ []
+ended (part ∷ next ∷ parts) = part ∷ ended (next ∷ parts)
+
+abbrev pub lines : List ℕ → List (List ℕ)
+lines input = ended (parted 10 input)
+
+-- where the session stands before a line: the detector, its store, and the line's number
+pub record Place : Type 0 where
+  pub detector : Detector
+  pub store : List ℕ
+  pub number : ℕ
+
+-- "It runs the content detector at default settings"; the store is lent as zeros
+abbrev pub start : Place
+start = record { detector = fresh defaults; store = replicate 4096 0; number = 0 }
+
+-- What a line brings: the luma call of its frame, rows packed, or 16. 9,216 bytes of scratch and 1,024 magnitudes are enough for
+-- every frame of at most 1,024 pixels whose sides the call takes.
+unfoldable pub lineCall : Place → List ℕ → Outcome
+lineCall p line =
+    cond
+    (isFrame line)
+    (called (p .detector) (luma (lumaOf (fields line)) (lineOf line .width) (lineOf line .height) (lineOf line .width) (lineOf line .stamp) (memory (p .store) (replicate 9216 0) (replicate 1024 (pos 0)))))
+    (record { answer = refusedAnswer (p .detector) 16; store = p .store })
+
+-- the next line's number; the last number of 64 bits stays
+abbrev pub nextNumber : ℕ → ℕ
+nextNumber n = cond (ltb n 18446744073709551615) (suc n) n
+
+unfoldable pub after : Place → List ℕ → Place
+after p line =
+    record { detector = lineCall p line .answer .detector; store = lineCall p line .store; number = nextNumber (p .number) }
+
+-- "cut or `-`"
+abbrev pub cutText : MaybeTimestamp → List ℕ
+cutText None = 45 ∷ []
+cutText (At t) = stampText (t .micros)
+
+-- "for each line its number from 0, answer, cut or `-`"
+unfoldable pub lineText : ℕ → Answer → List ℕ
+lineText number answer =
+    decimal number ++ (44 ∷ (decimal (answer .number) ++ (44 ∷ (cutText (answer .cut) ++ (10 ∷ [])))))
+
+unfoldable pub answers : Place → List (List ℕ) → List ℕ
+answers p [] = []
+answers p (line ∷ lines) = lineText (p .number) (lineCall p line .answer) ++ answers (after p line) lines
+
+-- `frame,answer,cut` and a line feed
+abbrev pub header : List ℕ
+header = 102 ∷ 114 ∷ 97 ∷ 109 ∷ 101 ∷ 44 ∷ 97 ∷ 110 ∷ 115 ∷ 119 ∷ 101 ∷ 114 ∷ 44 ∷ 99 ∷ 117 ∷ 116 ∷ 10 ∷ []
+
+-- the whole output for the whole input
+unfoldable pub output : List ℕ → List ℕ
+output input = header ++ answers start (lines input)
