@@ -1,5 +1,5 @@
 //! Both sides on the same inputs.
-use crate::generator::Generator;
+use crate::generator::{Generator, Random};
 use crate::lists::{self, Listed};
 use crate::table::Row;
 use crate::{rattle, rust, station};
@@ -373,20 +373,9 @@ fn subtracted() -> Row {
     row
 }
 
-/// Random numbers of 64 bits (SplitMix64): the replays' generator is too short for so many lists.
-struct Random(u64);
-
-impl Random {
-    fn next(&mut self) -> u64 {
-        self.0 = self.0.wrapping_add(0x9E37_79B9_7F4A_7C15);
-        let z = (self.0 ^ self.0 >> 30).wrapping_mul(0xBF58_476D_1CE4_E5B9);
-        let z = (z ^ z >> 27).wrapping_mul(0x94D0_49BB_1331_11EB);
-        z ^ z >> 31
-    }
-
-    fn record(&mut self) -> [u8; lists::RECORD] {
-        (self.next() as u128 | (self.next() as u128) << 64).to_le_bytes()
-    }
+/// A record of random bytes: the replays' generator is too short for so many lists.
+fn record(random: &mut Random) -> [u8; lists::RECORD] {
+    (random.next() as u128 | (random.next() as u128) << 64).to_le_bytes()
 }
 
 /// Which lists are compared: the seed that their bytes come from, and how many of each kind there are.
@@ -414,7 +403,7 @@ fn whole_lists<D: Listed>(
 ) {
     let mut random = Random(seed);
     for count in counts {
-        let mut script: Vec<u8> = (0..=count).flat_map(|_| random.record()).collect();
+        let mut script: Vec<u8> = (0..=count).flat_map(|_| record(&mut random)).collect();
         let (mut expected, detector) = lists::run::<D>(&script);
         seen(&detector);
         let mut found = rattle(&script);

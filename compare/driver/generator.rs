@@ -14,6 +14,20 @@ impl Generator {
     }
 }
 
+/// Random numbers of 64 bits (SplitMix64).
+#[cfg(rattle)]
+pub struct Random(pub u64);
+
+#[cfg(rattle)]
+impl Random {
+    pub fn next(&mut self) -> u64 {
+        self.0 = self.0.wrapping_add(0x9E37_79B9_7F4A_7C15);
+        let z = (self.0 ^ self.0 >> 30).wrapping_mul(0xBF58_476D_1CE4_E5B9);
+        let z = (z ^ z >> 27).wrapping_mul(0x94D0_49BB_1331_11EB);
+        z ^ z >> 31
+    }
+}
+
 /// A byte on fewer levels, so that equal neighbours and flat gradients occur.
 pub fn shade(byte: u8, kind: u32) -> u8 {
     match kind {

@@ -17,6 +17,12 @@ mod replay;
 mod replay_filter;
 mod rust;
 #[cfg(rattle)]
+mod session;
+#[cfg(rattle)]
+mod session_inputs;
+#[cfg(rattle)]
+mod sessions;
+#[cfg(rattle)]
 mod station;
 mod table;
 #[cfg(rattle)]
@@ -71,6 +77,7 @@ fn rows(root: &Path, words: &[String]) -> Vec<table::Row> {
     };
     let mut rows = compare::rows(which);
     rows.extend(edges::rows());
+    rows.extend(sessions::rows(root));
     rows.push(replays(root));
     rows
 }

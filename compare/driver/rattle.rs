@@ -1,4 +1,4 @@
-//! The Rattle side: the C functions of the crate `exports`. A slice passes as its address and its length.
+//! The Rattle side: the C functions of the crates `exports` and `session_exports`. A slice passes as its address and its length.
 
 mod c {
     unsafe extern "C" {
@@ -63,6 +63,7 @@ mod c {
         pub safe fn mw_auto_kernel_size(width: u32, height: u32) -> u32;
         pub fn mw_content_list(script: *const u8, script_len: usize, out: *mut u8, out_len: usize) -> u64;
         pub fn mw_adaptive_list(script: *const u8, script_len: usize, out: *mut u8, out_len: usize) -> u64;
+        pub fn mw_session(input: *const u8, input_len: usize, size: usize, out: *mut u8, out_len: usize) -> u64;
         pub safe fn mw_is_earlier(ts: i64, earlier: i64) -> u32;
         pub safe fn mw_duration_since(ts: i64, earlier: i64) -> u64;
         pub safe fn mw_saturating_sub_duration(ts: i64, d: u64) -> i64;
@@ -155,4 +156,9 @@ pub fn content_list<'a>(script: &[u8], out: &'a mut [u8]) -> &'a [u8] {
 pub fn adaptive_list<'a>(script: &[u8], out: &'a mut [u8]) -> &'a [u8] {
     let count = unsafe { c::mw_adaptive_list(script.as_ptr(), script.len(), out.as_mut_ptr(), out.len()) };
     &out[..count as usize]
+}
+
+/// How many bytes of `out` the whole output of the input took, fed in chunks of `size` bytes (0: the whole); 0: no room.
+pub fn session(input: &[u8], size: usize, out: &mut [u8]) -> usize {
+    unsafe { c::mw_session(input.as_ptr(), input.len(), size, out.as_mut_ptr(), out.len()) as usize }
 }
