@@ -227,18 +227,20 @@ impl Inputs {
         fields[at].insert_str(sign, &"0".repeat(count));
     }
 
-    /// A byte flipped, dropped, doubled, replaced, put in, or a comma moved.
+    /// A bit flipped, a byte dropped, doubled, replaced or put in, also at either end, or a comma moved.
     fn damage(&mut self, line: &mut Vec<u8>) {
         if line.is_empty() {
             return line.push(self.pick(BYTES));
         }
         let at = self.below(line.len() as u64) as usize;
-        match self.below(6) {
+        match self.below(8) {
             0 => line[at] ^= 1 << self.below(8),
             1 => drop(line.remove(at)),
             2 => line.insert(at, line[at]),
             3 => line[at] = self.pick(BYTES),
             4 => line.insert(at, self.pick(BYTES)),
+            5 => line.insert(0, self.pick(BYTES)),
+            6 => line.push(self.pick(BYTES)),
             _ => {
                 if let Some(comma) = line.iter().position(|&b| b == b',') {
                     line.remove(comma);

@@ -14,6 +14,8 @@ const PIPED: u64 = 200;
 /// Bytes of a long input, and of the longest that the program gets.
 const LONG_BYTES: usize = 100_000;
 const PIPED_BYTES: usize = 6_000_000;
+/// How many differing inputs are shrunk.
+const SHRUNK: u64 = 10;
 /// A byte that no output has: the memory before a call.
 const BLANK: u8 = 0xA5;
 /// How far more than the output always is room.
@@ -88,8 +90,9 @@ fn compare(row: &mut Row, input: Vec<u8>, chunk: usize, expected: Vec<u8>) {
     let room = expected.len() + SPARE;
     let found = proved(&input, chunk, room);
     let right = (Text(expected), true);
-    if found == right {
-        return row.compare(0, String::new, right, found);
+    if found == right || row.differ() >= SHRUNK {
+        let shown = || format!("\"{}\" in chunks of {chunk}", input.escape_ascii());
+        return row.compare(input.len() as u64, shown, right, found);
     }
     let least = shrunk(input, chunk);
     let expected = session::output(&least, &mut Seen::default());

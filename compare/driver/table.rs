@@ -13,6 +13,11 @@ impl Row {
         Self { name, compared: 0, differ: 0, smallest: None }
     }
 
+    #[cfg(rattle)]
+    pub fn differ(&self) -> u64 {
+        self.differ
+    }
+
     /// Counts one comparison. Of the inputs that show a difference it keeps the one of least size.
     pub fn compare<T: PartialEq + Debug>(&mut self, size: u64, input: impl Fn() -> String, rust: T, rattle: T) {
         self.compared += 1;
