@@ -34,7 +34,7 @@ abbrev rest : Place → List ℕ → List ℕ → List ℕ
 rest p line bs = answers p (ended (joined line (parted 10 bs)))
 
 -- a text has a first part
-data Some : List (List ℕ) → Type 0 where
+pub data Some : List (List ℕ) → Type 0 where
   some-parts : (part : List ℕ) (parts : List (List ℕ)) → Some (part ∷ parts)
 
 some-first : (b : ℕ) (parts : List (List ℕ)) → Some (withFirst b parts)
@@ -45,7 +45,7 @@ some-byte : (b : ℕ) (parts : List (List ℕ)) (t : Bool) → Some (cond t ([] 
 some-byte b parts true = some-parts [] parts
 some-byte b parts false = some-first b parts
 
-has-part : (bs : List ℕ) → Some (parted 10 bs)
+pub has-part : (bs : List ℕ) → Some (parted 10 bs)
 unfolding parted
 has-part [] = some-parts [] []
 has-part (b ∷ bs) = some-byte b (parted 10 bs) (eqb b 10)
