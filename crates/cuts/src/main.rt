@@ -1,6 +1,11 @@
 // Clip cuts: reads frame lines on standard input to its end and writes the answers to standard output as it goes.
+ghost use mathlib.Core.Path.{_≡_};
+ghost use mathlib.Core.Bool.{true, false};
 ghost use Prim.Native.Nat.{_≤_};
 ghost use lib.ListN.{length};
+ghost use Rattle.session.specs.Feeding.{fed};
+ghost use Rattle.session.specs.Sessions.{stateOf, lastState};
+use libc::STDERR_FILENO;
 use libc::STDIN_FILENO;
 use libc::STDOUT_FILENO;
 use session::Session;
@@ -22,7 +27,9 @@ fn write_out(out: &[u8], n: usize) -> bool
     false
 }
 
-// Feeds a whole chunk: where the text of its lines fills `out`, it is written, and the rest of the chunk is fed again.
+// Feeds a whole chunk: where the text of its lines fills `out`, it is written, and the rest of the chunk is fed again. Where a write fails,
+// any state is right, since the run ends. Any content of `out`, of the line past the session's length, and of the luma values, the scratch
+// and the magnitudes is right, here and below.
 fn feed_chunk(
     s: Session,
     chunk: &[u8],
@@ -34,6 +41,7 @@ fn feed_chunk(
     out: &mut [u8],
 ) -> Turn
     requires { ⌜ 64 ≤ length (now out) ⌝ }
+    ensures { λ r. ⌜ (r .more ≡ true → stateOf (r .session) (now (line .exit)) (now (store .exit)) ≡ fed (stateOf s (now (line .entry)) (now (store .entry))) (now (chunk .entry))) ⌝ }
 {
     let mut state = s;
     let mut a = 0;
@@ -72,7 +80,10 @@ fn finish(
     store: &mut [u8; 4096],
     scratch: &mut [u8; 9216],
     magnitudes: &mut [i32; 1024],
-) -> Turn {
+) -> Turn
+    ensures { λ r. ⌜ stateOf (r .session) (now (line .entry)) (now (store .exit)) ≡ lastState (stateOf s (now (line .entry)) (now (store .entry))) ⌝ }
+    ensures { λ r. ⌜ r .more ≡ false ⌝ }
+{
     let mut out = [0u8; 64];
     let f = session::finish(s, line, luma, store, scratch, magnitudes, &mut out);
     write_out(&out, f.written);
@@ -83,7 +94,8 @@ fn finish(
     }
 }
 
-// Reads once, and feeds what came.
+// Reads once, and feeds what came. Of what a read brings, and whether it does, nothing can be said: the state is right by the contracts
+// of `feed_chunk`, for the bytes that came, and of `finish`.
 fn read_some(
     s: Session,
     line: &mut [u8; 8193],
@@ -111,7 +123,14 @@ fn read_some(
     feed_chunk(s, &chunk[..n], line, luma, store, scratch, magnitudes, out)
 }
 
-// A proved loop has to end, and nothing says that an input does: the turns are counted down from a number that no run uses up.
+// Says that the rest of the input is left unread.
+fn say_unread() {
+    io::write_all(STDERR_FILENO, b"standard input: too many reads\n");
+}
+
+// Reads and feeds to the end of the input. A proved loop has to end, and nothing says that an input does: the turns are counted down from
+// a number that no run uses up; if one did, it would say so and leave the rest of the input unread. What is read is no value of the proof,
+// so no contract says more than `feed_chunk` and `finish` do.
 fn run(
     line: &mut [u8; 8193],
     luma: &mut [u8; 1024],
@@ -134,6 +153,7 @@ fn run(
         state = next;
         turns -= 1;
     }
+    say_unread();
 }
 
 fn main() {

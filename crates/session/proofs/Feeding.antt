@@ -141,6 +141,16 @@ part-size a e l h = omega (arith, part-length (e - a) a l)
 pub rest-length : (a : ℕ) (l : List ℕ) → length (take (length l - a) (drop a l)) ≡ length l - a
 rest-length a l = omega (arith, part-length (length l - a) a l)
 
+-- the state after the first a bytes and then t of the next k is that after the first a + t
+pub fed-then : (s s′ s″ : State) (chunk : List ℕ) (a k t : ℕ) → s′ ≡ fed s (take a chunk) → t ≤ length (take k (drop a chunk)) → s″ ≡ fed s′ (take t (take k (drop a chunk)))
+    → s″ ≡ fed s (take (a + t) chunk)
+fed-then s s′ s″ chunk a k t first within then =
+    let y = take t (drop a chunk) in
+    let size = part-length k a chunk in
+    then
+    ∙ rw (take-take t k (drop a chunk) (omega (arith, within)), take-add a t chunk, fed-append s (take a chunk) y)
+    (ap (λ (q : State). fed q y) first)
+
 pub feeds-then : (s s′ s″ : State) (chunk out out′ out″ : List ℕ) (at a b k t w : ℕ) → at ≤ length out → Feeds s chunk out at s′ out′ a b → Feeds s′ (take k (drop a chunk)) out′ (at + b) s″ out″ t w
     → Feeds s chunk out at s″ out″ (a + t) (b + w)
 feeds-then s s′ s″ chunk out out′ out″ at a b k t w room f g =
@@ -153,7 +163,7 @@ feeds-then s s′ s″ chunk out out′ out″ at a b k t w room f g =
     let on : fedText s′ y ≡ fedText (fed s x) y = ap (λ (q : State). fedText q y) (f .state) in
     record {
       within = omega (arith, f .within, g .within);
-      state = g .state ∙ rw (part, whole, fed-append s x y) (ap (λ (q : State). fed q y) (f .state));
+      state = fed-then s s′ s″ chunk a k t (f .state) (g .within) (g .state);
       text =
           g .text
           ∙ rw (part, whole, text-append s x y, ← on)

@@ -1,4 +1,4 @@
--- `cuts::finish` is safe and ends: the last line's text fits its 64 bytes. Assumes nothing.
+-- `cuts::finish` meets its contract: the last line's text fits its 64 bytes. Assumes nothing.
 use borrow.Author.Needs.{needs}
 use mathlib.Core.Path.{_≡_, refl, sym}
 use Prim.Native.Nat.{_≤_}

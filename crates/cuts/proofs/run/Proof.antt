@@ -49,6 +49,9 @@ loop-less c = omega arith
 loop-again : tie.Need-loop-again Inv-loop μ-loop
 loop-again c = kept (c .before .before .before .before .before .before .before)
 
+say-unread-requires : tie.Need-say-unread-requires Inv-loop μ-loop
+say-unread-requires c κs = tt
+
 same-length-3 : tie.Need-same-length-3 Inv-loop μ-loop
 same-length-3 c = omega arith
 
@@ -73,6 +76,7 @@ run-spec =
     sub-turns
     loop-less
     loop-again
+    say-unread-requires
     same-length-3
     same-length-4
     returns-2)
