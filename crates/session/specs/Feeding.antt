@@ -1,4 +1,4 @@
--- The session fed bit by bit: what is kept between two chunks of the input, and what each chunk brings.
+-- The session fed chunk by chunk: what is kept between two chunks of the input, and what each chunk brings.
 use mathlib.Core.Bool.{cond}
 use mathlib.Core.List.{List, [], _∷_, _++_}
 use Prim.Native.Nat.{ℕ, suc}
@@ -6,7 +6,8 @@ use lib.Dec.{eqb, ltb}
 use lib.ListN.{length}
 use Rattle.session.specs.Output.{Place, start, lineCall, after, lineText}
 
--- the place of the current line, and its bytes so far: of a line that is too long only the first 8,193 are held
+-- The place of the current line, and its bytes so far: of a line that is too long only the first 8,193 are held. "Over 8,192 bytes" gives
+-- 16, so 8,192 bytes and one more tell that a line is too long.
 pub record State : Type 0 where
   pub place : Place
   pub held : List ℕ

@@ -81,7 +81,8 @@ pub fn header() -> [u8; 17]
     ]
 }
 
-// The luma call of a frame line whose values are the first of `luma`.
+// The luma call of a frame line whose values are the first of `luma`. Any content of the scratch and of the magnitudes is right, before
+// and after.
 fn call_frame(
     s: Session,
     f: FrameLine,
@@ -110,7 +111,7 @@ fn call_frame(
     )
 }
 
-// What a line brings. The luma values, the scratch and the magnitudes may hold anything before and after.
+// What a line brings. Any content of the luma values, the scratch and the magnitudes is right, before and after.
 fn call_line(
     s: Session,
     line: &[u8],
@@ -162,7 +163,7 @@ fn put_line(out: &mut [u8], at: usize, number: u64, a: Answer) -> usize
     decimal::put_byte(out, e, 10)
 }
 
-// The next line's number; the last number of 64 bits stays.
+// The next line's number; the last number of 64 bits stays, which no input that a machine holds meets (proofs/Numbers.antt).
 fn next_number(n: u64) -> u64
     ensures { λ r. ⌜ r ≡ nextNumber n ⌝ }
 {
@@ -203,7 +204,8 @@ fn end_line(
     }
 }
 
-// One byte more of a line: of a line that is too long only the first 8,193 bytes are held.
+// One byte more of a line: of a line that is too long only the first 8,193 bytes are held. The answer is how many are held; any bytes of
+// `line` from there on are right.
 fn keep(line: &mut [u8], n: usize, b: u8) -> usize
     requires { ⌜ (length (now line) ≡ 8193) × (n ≤ 8193) ⌝ }
     ensures { λ r. ⌜ (r ≤ 8193) × (take r (now (line .exit)) ≡ hold (take n (now (line .entry))) b) ⌝ }
@@ -215,7 +217,8 @@ fn keep(line: &mut [u8], n: usize, b: u8) -> usize
     n
 }
 
-// The bytes of the chunk up to its first line feed, or all of them, join the line.
+// The bytes of the chunk up to its first line feed, or all of them, join the line. Any bytes of `line` from the answer's `length` on are
+// right.
 fn hold_bytes(line: &mut [u8], held: usize, chunk: &[u8]) -> Held
     requires { ⌜ (length (now line) ≡ 8193) × (held ≤ 8193) ⌝ }
     ensures { λ r. ⌜ (r .length ≤ 8193) × (r .at ≡ beforeFeed (now (chunk .entry))) × (take (r .length) (now (line .exit)) ≡ heldAfter (take held (now (line .entry))) (take (r .at) (now (chunk .entry)))) ⌝ }
@@ -333,8 +336,10 @@ fn feed_at(
     }
 }
 
-// Takes the chunk, or as much of it as `out` has room for the text of, 64 bytes for a line: the caller hands in the rest again.
-// The luma values, the scratch and the magnitudes may hold anything before and after.
+// Takes the chunk, or as much of it as `out` has room for the text of, 64 bytes for a line: the caller hands in the rest again. Bytes are
+// left only where fewer than 64 bytes of `out` are; how many more are taken then is left open, and of an `out` under 64 bytes it may be
+// that nothing is taken. Any content of the luma values, the scratch and the magnitudes is right, before and after, and so are any bytes
+// of `line` from the session's `length` on.
 pub fn feed(
     s: Session,
     chunk: &[u8],
@@ -382,7 +387,8 @@ fn finish_at(
     }
 }
 
-// The end of the input: the text of the line that no line feed ended, if there is one.
+// The end of the input: the text of the line that no line feed ended, if there is one. Any content of the luma values, the scratch and the
+// magnitudes is right, before and after, and so are any bytes of `line` from the session's `length` on.
 pub fn finish(
     s: Session,
     line: &[u8; 8193],
