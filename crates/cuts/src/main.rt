@@ -5,6 +5,7 @@ ghost use Prim.Native.Nat.{_≤_};
 ghost use lib.ListN.{length};
 ghost use Rattle.session.specs.Feeding.{fed};
 ghost use Rattle.session.specs.Sessions.{stateOf, lastState};
+ghost use Rattle.cuts.specs.Reads.{FedSome};
 use libc::STDERR_FILENO;
 use libc::STDIN_FILENO;
 use libc::STDOUT_FILENO;
@@ -94,8 +95,8 @@ fn finish(
     }
 }
 
-// Reads once, and feeds what came. Of what a read brings, and whether it does, nothing can be said: the state is right by the contracts
-// of `feed_chunk`, for the bytes that came, and of `finish`.
+// Reads once, and feeds what came: that stands at the start of `chunk`. How many bytes come, and which, is the input's: no contract can say
+// it. Where the read fails, or the input has ended, the run ends.
 fn read_some(
     s: Session,
     line: &mut [u8; 8193],
@@ -107,6 +108,7 @@ fn read_some(
     out: &mut [u8],
 ) -> Turn
     requires { ⌜ 64 ≤ length (now out) ⌝ }
+    ensures { λ r. ⌜ (r .more ≡ true → FedSome (stateOf s (now (line .entry)) (now (store .entry))) (now (chunk .exit)) (stateOf (r .session) (now (line .exit)) (now (store .exit)))) ⌝ }
 {
     let got = libc::read(STDIN_FILENO, chunk);
     if got < 0 {
@@ -129,8 +131,8 @@ fn say_unread() {
 }
 
 // Reads and feeds to the end of the input. A proved loop has to end, and nothing says that an input does: the turns are counted down from
-// a number that no run uses up; if one did, it would say so and leave the rest of the input unread. What is read is no value of the proof,
-// so no contract says more than `feed_chunk` and `finish` do.
+// a number that no run uses up; if one did, it would say so and leave the rest of the input unread. What was read before is overwritten,
+// so this contract cannot speak of the whole input; `session::run` does, on memory.
 fn run(
     line: &mut [u8; 8193],
     luma: &mut [u8; 1024],
