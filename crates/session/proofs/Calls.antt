@@ -1,10 +1,10 @@
 -- A line's call: the luma call of its frame, whatever scratch and magnitudes are lent, or 16.
 use mathlib.Core.Path.{_≡_, refl, sym, ap, _∙_}
 use mathlib.Core.Bool.{Bool, true, false, cond, _&&_, true≢false}
-use mathlib.Core.List.{List, [], _∷_, map}
-use Prim.Native.Nat.{ℕ, _+_, _*_, _≤_}
+use mathlib.Core.List.{List, [], _∷_}
+use Prim.Native.Nat.{ℕ, _*_, _≤_}
 use native.Mathlib.Omega.{arith}
-use borrow.Author.Tests.{leb-true, eqb-true}
+use borrow.Author.Tests.{leb-true}
 use lib.Dec.{eqb, leb}
 use lib.IntN.{ℤ, pos}
 use lib.ListN.{length, take, replicate, length-replicate}
@@ -19,9 +19,9 @@ use Rattle.content.specs.State.{refusedAnswer, settled, fresh}
 use Rattle.content_calls.specs.Call.{Outcome, called, frameCall, callRefusal, luma, memory}
 use Rattle.decimal.specs.Reading.{isUpTo, isStamp, number}
 use Rattle.frame_line.specs.declared.FrameLine.{FrameLine}
-use Rattle.frame_line.specs.Line.{isFrameOf, isFrame, allValues, fields, frameOf, lineOf, lumaOf, noFrame}
+use Rattle.frame_line.specs.Line.{isFrameOf, isFrame, fields, frameOf, lineOf, lumaOf}
 use Rattle.session.specs.declared.Session.{Session}
-use Rattle.session.specs.Output.{Place, lineCall}
+use Rattle.session.specs.Output.{lineCall}
 use Rattle.session.specs.Sessions.{placeOf, frameCallOf}
 
 -- of the scratch and the magnitudes a call asks for the lengths alone

@@ -1,14 +1,13 @@
 -- The end of a line, from what its call, its text and its number are; and the end of the input.
-use mathlib.Core.Path.{_≡_, refl, sym, ap, _∙_}
-use mathlib.Core.Bool.{Bool, true, false, cond}
-use mathlib.Core.List.{List, [], _∷_, _++_}
-use Prim.Native.Nat.{ℕ, _+_, _-_, _≤_}
+use mathlib.Core.Path.{_≡_, refl}
+use mathlib.Core.List.{List}
+use Prim.Native.Nat.{ℕ, _+_, _-_}
 use native.Mathlib.Omega.{arith}
-use lib.ListN.{length, take}
+use lib.ListN.{length}
 use Rattle.content.specs.declared.Answer.{Answer}
 use Rattle.decimal.specs.Placed.{placed}
 use Rattle.session.specs.declared.Session.{Session}
-use Rattle.session.specs.Output.{Place, lineCall, after, nextNumber, lineText}
+use Rattle.session.specs.Output.{lineCall, after, nextNumber, lineText}
 use Rattle.session.specs.Sessions.{placeOf}
 use Rattle.session.specs.Promises.{Ends}
 

@@ -1,17 +1,15 @@
 -- The bytes of a line joined to those that are held, up to the first line feed.
 use mathlib.Core.Path.{_≡_, refl, sym, ap, _∙_}
-use mathlib.Core.Bool.{Bool, true, false, cond}
+use mathlib.Core.Bool.{Bool, true, false}
 use mathlib.Core.List.{List, [], _∷_, _++_}
 use Prim.Native.Nat.{ℕ, suc, _+_, _≤_, _<_}
 use native.Mathlib.Numerals.{add-one}
 use native.Mathlib.Omega.{arith}
 use lib.Dec.{eqb}
 use lib.ListN.{length, getD, take, drop, set, drop-of-length-le}
-use lib.Seq.{length-take-le, take-suc, take-suc-set, drop-cons, take-all}
+use lib.Seq.{length-take-le, take-suc, take-suc-set, drop-cons}
 use borrow.Author.Tests.{lt-ltb, le-ltb, eq-eqb, ne-eqb}
-use Rattle.session.specs.Output.{Place}
 use Rattle.session.specs.Feeding.{State, hold, next, textOf, fed, fedText, heldAfter, beforeFeed}
-use Rattle.session.specs.Sessions.{heldLength}
 
 -- one byte more: it is stored, or the line is full
 pub keep-more : (line : List ℕ) (n b : ℕ) → length line ≡ 8193 → n < 8193 → take (n + 1) (set line n b) ≡ hold (take n line) b

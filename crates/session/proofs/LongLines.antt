@@ -1,15 +1,15 @@
 -- A line of which only the first 8,193 bytes are held is answered as the whole line is.
-use mathlib.Core.Path.{_≡_, refl, sym, ap, _∙_}
-use mathlib.Core.Bool.{Bool, true, false, cond}
+use mathlib.Core.Path.{_≡_, refl, sym}
+use mathlib.Core.Bool.{Bool, true, false}
 use mathlib.Core.List.{List, [], _∷_, _++_}
-use Prim.Native.Nat.{ℕ, _+_, _≤_, _<_}
+use Prim.Native.Nat.{ℕ, _<_}
 use native.Mathlib.Omega.{arith}
-use lib.Dec.{ltb, leb}
-use lib.ListN.{length, take, length-take, length-append}
+use lib.Dec.{ltb}
+use lib.ListN.{length, take, length-append}
 use lib.Seq.{take-all, take-append-le, length-take-le}
-use borrow.Author.Tests.{ltb-true, ltb-false, lt-leb, le-ltb, lt-ltb}
+use borrow.Author.Tests.{ltb-true, ltb-false, lt-leb}
 use Rattle.frame_line.specs.Line.{isFrame}
-use Rattle.session.specs.Output.{Place, lineCall, after, lineText}
+use Rattle.session.specs.Output.{Place, lineCall, after}
 use Rattle.session.specs.Feeding.{hold}
 
 -- a line of more than 8,192 bytes is no frame line

@@ -1,5 +1,5 @@
 -- Texts written one after the other, and how long they are.
-use mathlib.Core.Path.{_≡_, refl, sym, ap, _∙_}
+use mathlib.Core.Path.{_≡_, refl, ap, _∙_}
 use mathlib.Core.List.{List, [], _∷_, _++_, append-assoc}
 use Prim.Native.Nat.{ℕ, _+_, _≤_, _<_}
 use native.Mathlib.Numerals.{add-one}
@@ -10,8 +10,8 @@ use Rattle.timestamp.specs.declared.MaybeTimestamp.{MaybeTimestamp}
 use Rattle.timestamp.specs.declared.MaybeTimestamp.the-variants.{None, At}
 use Rattle.content.specs.declared.Answer.{Answer}
 use Rattle.decimal.specs.Placed.{placed}
-use Rattle.decimal.specs.Writing.{decimal, stampText}
-use Rattle.decimal.proofs.Writes.{length-placed, placed-next}
+use Rattle.decimal.specs.Writing.{decimal}
+use Rattle.decimal.proofs.Writes.{placed-next}
 use Rattle.decimal.proofs.Lengths.{decimal-length, stamp-length}
 use Rattle.session.specs.Output.{cutText, lineText}
 

@@ -11,7 +11,7 @@ use Rattle.content.specs.declared.Answer.{Answer}
 use Rattle.content_calls.specs.Call.{Outcome}
 use Rattle.decimal.specs.Parts.{parted, withFirst}
 use Rattle.session.specs.Output.{Place, start, lineCall, after, lineText, ended, lines, answers, header, output}
-use Rattle.session.specs.Feeding.{State, hold, next, textOf, fed, fedText, lastText, chunksText, fresh}
+use Rattle.session.specs.Feeding.{State, next, textOf, fed, fedText, lastText, chunksText, fresh}
 use Rattle.session.proofs.LongLines.{call-held, after-held, hold-held}
 use Rattle.session.proofs.Chunks.{chunks-text}
 

@@ -1,8 +1,7 @@
 -- `session::call_line` meets its contract: a frame line's call, or 16. Assumes nothing.
 use borrow.Author.Needs.{needs}
 use mathlib.Core.Path.{_≡_, sym, ap, _∙_}
-use mathlib.Core.Bool.{Bool, true, false}
-use lib.ListN.{length}
+use mathlib.Core.Bool.{true, false}
 use Rattle.content_calls.specs.Call.{Outcome}
 use Rattle.frame_line.specs.declared.FrameLine.{FrameLine}
 use Rattle.frame_line.specs.Line.{isFrame}

@@ -1,6 +1,6 @@
 -- `session::end_line` meets its contract: the line's call, its text, and the next number. Assumes nothing.
 use borrow.Author.Needs.{needs}
-use mathlib.Core.Path.{_≡_, refl, sym, ap, _∙_}
+use mathlib.Core.Path.{sym}
 use native.Mathlib.Omega.{arith}
 use lib.Seq.{length-take-le}
 use Rattle.session.proofs.Ends.{line-ends}

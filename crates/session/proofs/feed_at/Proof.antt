@@ -1,5 +1,4 @@
 -- `session::feed_at` meets its contract: the loop feeds line by line while there is room for a line's text. Assumes nothing.
-use borrow.Author.Needs.{needs}
 use mathlib.Core.Path.{_≡_}
 use Prim.Native.Nat.{_+_, _-_, _≤_, _<_}
 use native.Mathlib.Omega.{arith}

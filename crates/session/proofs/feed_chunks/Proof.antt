@@ -1,8 +1,8 @@
 -- `session::feed_chunks` meets its contract: chunk by chunk, as the whole input in one chunk. Assumes nothing.
 use mathlib.Core.Path.{_≡_, refl}
-use Prim.Native.Nat.{_+_, _-_, _≤_, _<_}
+use Prim.Native.Nat.{_+_, _-_, _≤_}
 use native.Mathlib.Omega.{arith}
-use lib.ListN.{length, take, drop}
+use lib.ListN.{length}
 use Rattle.session.specs.Sessions.{stateOf}
 use Rattle.session.specs.Promises.{Feeds}
 use Rattle.session.proofs.Feeding.{feeds-none, part-size, feeds-to}

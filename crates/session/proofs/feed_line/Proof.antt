@@ -1,6 +1,5 @@
 -- `session::feed_line` meets its contract: the bytes up to a line feed and that, or all of them. Assumes nothing.
 use borrow.Author.Needs.{needs}
-use mathlib.Core.Path.{_≡_, sym, _∙_}
 use native.Mathlib.Omega.{arith}
 use Rattle.session.proofs.Texts.{line-length}
 use Rattle.session.proofs.Feeding.{held-small, held-same, feeds-all, feeds-line}

@@ -1,5 +1,4 @@
 -- `session::hold_bytes` meets its contract: the loop keeps the bytes of the chunk before i, none of them a line feed. Assumes nothing.
-use borrow.Author.Needs.{needs}
 use mathlib.Core.Path.{_≡_}
 use Prim.Native.Nat.{_-_}
 use native.Mathlib.Omega.{arith}

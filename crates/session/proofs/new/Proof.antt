@@ -1,6 +1,6 @@
 -- `session::new` meets its contract: whatever settings say of the defaults, their detector is fresh. Assumes nothing.
 use borrow.Author.Needs.{needs}
-use mathlib.Core.Path.{_≡_, ap, _∙_}
+use mathlib.Core.Path.{ap, _∙_}
 use Rattle.content.specs.declared.Detector.{Detector}
 use Rattle.content.specs.declared.Settled.{Settled}
 use Rattle.session.specs.declared.Session.{Session}

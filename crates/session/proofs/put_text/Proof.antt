@@ -1,6 +1,6 @@
 -- `session::put_text` meets its contract: byte by byte. Assumes nothing.
 use mathlib.Core.Path.{_≡_}
-use Prim.Native.Nat.{_-_, _≤_}
+use Prim.Native.Nat.{_-_}
 use native.Mathlib.Omega.{arith}
 use lib.ListN.{length}
 use Rattle.session.proofs.Texts.{Put, put-none, put-more, put-all}
