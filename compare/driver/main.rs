@@ -1,7 +1,7 @@
 //! Compares the proved functions with the Rust. `compare/run` builds and starts it; README.md says what it does.
 //!
 //! driver ROOT [--seed N] [--count N]    compares; ROOT is the repository's root
-//! driver ROOT --write                   writes the replay programs' stored outputs anew
+//! driver ROOT --write                   writes the programs' stored outputs anew
 //! driver ROOT --time                    times both sides
 mod adaptive_lists;
 #[cfg(rattle)]
@@ -16,7 +16,6 @@ mod rattle;
 mod replay;
 mod replay_filter;
 mod rust;
-#[cfg(rattle)]
 mod session;
 #[cfg(rattle)]
 mod session_inputs;
@@ -35,8 +34,22 @@ fn stored(root: &Path, program: &str) -> PathBuf {
     root.join("crates").join(program).join("stdout")
 }
 
+/// The oracle's outputs: of the replay programs, and of the session's programs on their stored inputs. `session_cases`
+/// writes one line more, about chunks of 1 to 300 bytes.
+fn outputs(root: &Path) -> Vec<(&'static str, String)> {
+    let session = |program: &str| {
+        let path = root.join("crates").join(program).join("stdin");
+        let input = std::fs::read(&path).unwrap_or_else(|e| panic!("{}: {e}", path.display()));
+        String::from_utf8(session::output(&input, &mut session::Seen::default())).expect("digits and commas")
+    };
+    let mut outputs = replay::outputs().to_vec();
+    outputs.push(("cuts", session("cuts")));
+    outputs.push(("session_cases", session("session_cases") + "the same in chunks of each size below 301\n"));
+    outputs
+}
+
 fn write(root: &Path) -> ExitCode {
-    for (program, output) in replay::outputs() {
+    for (program, output) in outputs(root) {
         let path = stored(root, program);
         if let Err(e) = std::fs::write(&path, &output) {
             eprintln!("{}: {e}", path.display());
@@ -49,8 +62,8 @@ fn write(root: &Path) -> ExitCode {
 
 /// The stored outputs beside the oracle's, line by line.
 fn replays(root: &Path) -> table::Row {
-    let mut row = table::Row::new("stored outputs of the replays, lines");
-    for (program, output) in replay::outputs() {
+    let mut row = table::Row::new("stored outputs of the programs, lines");
+    for (program, output) in outputs(root) {
         let text = std::fs::read_to_string(stored(root, program)).unwrap_or_default();
         let count = output.lines().count().max(text.lines().count());
         for i in 0..count {

@@ -67,6 +67,7 @@ fn answer(detector: &mut Detector, line: &[u8]) -> (u32, Option<Timestamp>) {
 
 /// What the lines brought, by answer, and how many cuts: it shows that the inputs reach each.
 #[derive(Default)]
+#[cfg_attr(not(rattle), allow(dead_code))]
 pub struct Seen {
     pub lines: u64,
     pub frames: u64,
