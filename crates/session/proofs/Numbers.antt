@@ -5,11 +5,11 @@ use mathlib.Core.Bool.{Bool, true, false, cond}
 use mathlib.Core.List.{List, [], _∷_, _++_}
 use Prim.Native.Nat.{ℕ, suc, _+_, _≤_, _<_}
 use native.Mathlib.Omega.{arith}
-use lib.Dec.{eqb, ltb}
+use lib.Dec.{eqb}
 use lib.ListN.{length}
 use borrow.Author.Tests.{lt-ltb}
 use Rattle.decimal.specs.Parts.{parted, withFirst}
-use Rattle.session.specs.Output.{Place, start, lineCall, after, nextNumber, lineText, ended, lines, answers, header, output}
+use Rattle.session.specs.Output.{Place, start, lineCall, after, lineText, ended, lines, answers, header, output}
 use Rattle.session.specs.Numbered.{answersFrom}
 use Rattle.session.proofs.Theorem.{Some, some-parts, has-part}
 
