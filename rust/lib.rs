@@ -181,7 +181,8 @@ fn passed(number: u32) -> Result<(), Refusal> {
     }
 }
 
-/// Weights of a score, or a frame's differences, each 0 to 255.
+/// One number for each of the four kinds of difference. A frame's differences are 0 to 255; weights are finite, up to 2^20 in size,
+/// and may be negative.
 #[derive(Clone, Copy, Debug, PartialEq)]
 pub struct Components {
     pub hue: f64,
@@ -208,24 +209,29 @@ pub struct Answer {
     pub components: Components,
 }
 
-/// How cuts that lie near each other are thinned.
+/// How cuts are kept `min_duration` apart.
 #[derive(Clone, Copy, Debug, PartialEq, Eq)]
 pub enum FilterMode {
+    /// Frames at or over the threshold that follow each other too closely are joined to one cut, reported at the stamp of the last
+    /// of them once scores have stayed below for `min_duration`.
     Merge,
+    /// A frame at or over the threshold is a cut if `min_duration` has passed since the last cut, and else is dropped.
     Suppress,
 }
 
 /// Settings of the content detector. `ContentOptions::default()` has the defaults.
 #[derive(Clone, Copy, Debug, PartialEq)]
 pub struct ContentOptions {
+    /// The score from which on a frame is over the threshold. Any number but NaN.
     pub threshold: f64,
     /// The least distance from one cut to the next, in microseconds.
     pub min_duration: u64,
+    /// How much each difference counts in the score: their weighted sum, over the sum of the weights' sizes. Not all zero.
     pub weights: Components,
     pub filter_mode: FilterMode,
     /// An odd number from 3 on; None goes by the frame's size.
     pub kernel_size: Option<u32>,
-    /// Whether the first scored frame may be a cut.
+    /// Whether the seed lies the minimum before the first scored frame, so that this frame may be a cut, or at it.
     pub initial_cut: bool,
 }
 
@@ -245,16 +251,19 @@ impl Default for ContentOptions {
 /// Settings of the adaptive detector. `AdaptiveOptions::default()` has the defaults.
 #[derive(Clone, Copy, Debug, PartialEq)]
 pub struct AdaptiveOptions {
+    /// The ratio of a target to the average of the scores about it from which on it is a cut. Any number but NaN.
     pub threshold: f64,
     /// The least distance from one cut to the next, in microseconds.
     pub min_duration: u64,
     /// How many scores stand on each side of the target, 1 to 64.
     pub window_width: u32,
+    /// The score that a target must reach, besides the ratio, to be a cut. Any number but NaN.
     pub min_content_val: f64,
+    /// How much each difference counts in the score: their weighted sum, over the sum of the weights' sizes. Not all zero.
     pub weights: Components,
     /// An odd number from 3 on; None goes by the frame's size.
     pub kernel_size: Option<u32>,
-    /// Whether the first target may be a cut.
+    /// Whether the seed lies the minimum before the first target, so that this target may be a cut, or at it.
     pub initial_cut: bool,
 }
 
@@ -282,7 +291,7 @@ fn kernel_number(kernel_size: Option<u32>) -> u32 {
 }
 
 /// The memory that a frame call is lent. It grows with the frames.
-#[derive(Clone, Debug, Default)]
+#[derive(Clone, Default)]
 struct Lent {
     store: Vec<u8>,
     scratch: Vec<u8>,
@@ -304,6 +313,24 @@ impl Lent {
             self.magnitudes.resize(magnitudes as usize, 0);
         }
     }
+
+    /// Calls, and calls once more with enough memory where it was too short: a refused call changed nothing. So memory grows for a
+    /// frame that is in order alone.
+    fn answered(
+        &mut self,
+        width: u32,
+        height: u32,
+        mut call: impl FnMut(&mut Lent, &mut [u64]) -> u32,
+    ) -> Result<Answer, Refusal> {
+        let mut answer = vec![0u64; unsafe { sys::mw_answer_words() } as usize];
+        let mut number = call(self, &mut answer);
+        if matches!(number, 12..=14) {
+            self.fit(width, height);
+            number = call(self, &mut answer);
+        }
+        passed(number)?;
+        Ok(answer_of(&answer))
+    }
 }
 
 fn answer_of(w: &[u64]) -> Answer {
@@ -321,7 +348,8 @@ macro_rules! detector {
             /// A detector with the default settings.
             pub fn new() -> Self {
                 let mut state = vec![0u64; unsafe { sys::$words() } as usize];
-                unsafe { sys::$default(state.as_mut_ptr(), state.len()) };
+                let number = unsafe { sys::$default(state.as_mut_ptr(), state.len()) };
+                debug_assert_eq!(number, 0);
                 $name { state, lent: Lent::default() }
             }
 
@@ -330,20 +358,20 @@ macro_rules! detector {
                 &self.state
             }
 
-            /// A detector with a state that was kept. Its stretch is not gone on with, as the last frame's planes were not kept:
-            /// the stream is cleared, which keeps settings and size. Refused by 15 where the words are no record.
+            /// A detector with the settings and the size of a state that was kept. The stream is cleared, since the planes of the last
+            /// frame were not kept: the next frame has no score. Refused by 15 where the words are no record, or a record of what no
+            /// detector can be in.
             pub fn from_state(words: &[u64]) -> Result<Self, Refusal> {
                 let mut state = words.to_vec();
                 passed(unsafe { sys::$clear(state.as_mut_ptr(), state.len()) })?;
                 Ok($name { state, lent: Lent::default() })
             }
 
-            /// A luma frame, row by row, each `stride` bytes after the one before, with its stamp in microseconds.
+            /// A luma frame, row by row, with its stamp in microseconds. Row r starts at byte r * `stride`, and `height` * `stride` bytes
+            /// are needed, the padding of the last row included.
             pub fn process_luma(&mut self, plane: &[u8], width: u32, height: u32, stride: u32, ts: i64) -> Result<Answer, Refusal> {
-                self.lent.fit(width, height);
-                let mut answer = vec![0u64; unsafe { sys::mw_answer_words() } as usize];
-                let (s, m) = (&mut self.state, &mut self.lent);
-                passed(unsafe {
+                let s = &mut self.state;
+                self.lent.answered(width, height, |m, answer| unsafe {
                     sys::$luma(
                         s.as_mut_ptr(),
                         s.len(),
@@ -362,16 +390,13 @@ macro_rules! detector {
                         m.magnitudes.as_mut_ptr(),
                         m.magnitudes.len(),
                     )
-                })?;
-                Ok(answer_of(&answer))
+                })
             }
 
-            /// A BGR frame, three bytes a pixel.
+            /// A BGR frame, three bytes a pixel in the order B, G, R. `stride` is in bytes too, so at least 3 * `width`.
             pub fn process_bgr(&mut self, pixels: &[u8], width: u32, height: u32, stride: u32, ts: i64) -> Result<Answer, Refusal> {
-                self.lent.fit(width, height);
-                let mut answer = vec![0u64; unsafe { sys::mw_answer_words() } as usize];
-                let (s, m) = (&mut self.state, &mut self.lent);
-                passed(unsafe {
+                let s = &mut self.state;
+                self.lent.answered(width, height, |m, answer| unsafe {
                     sys::$bgr(
                         s.as_mut_ptr(),
                         s.len(),
@@ -390,11 +415,10 @@ macro_rules! detector {
                         m.magnitudes.as_mut_ptr(),
                         m.magnitudes.len(),
                     )
-                })?;
-                Ok(answer_of(&answer))
+                })
             }
 
-            /// An HSV frame, as three planes of one stride.
+            /// An HSV frame, as three planes of one stride, in bytes. Hue is 0 to 179.
             #[allow(clippy::too_many_arguments)]
             pub fn process_hsv(
                 &mut self,
@@ -406,10 +430,8 @@ macro_rules! detector {
                 stride: u32,
                 ts: i64,
             ) -> Result<Answer, Refusal> {
-                self.lent.fit(width, height);
-                let mut answer = vec![0u64; unsafe { sys::mw_answer_words() } as usize];
-                let (s, m) = (&mut self.state, &mut self.lent);
-                passed(unsafe {
+                let s = &mut self.state;
+                self.lent.answered(width, height, |m, answer| unsafe {
                     sys::$hsv(
                         s.as_mut_ptr(),
                         s.len(),
@@ -432,13 +454,13 @@ macro_rules! detector {
                         m.magnitudes.as_mut_ptr(),
                         m.magnitudes.len(),
                     )
-                })?;
-                Ok(answer_of(&answer))
+                })
             }
 
             /// Forgets the stream: settings and size stay, all else is as at the start.
             pub fn clear(&mut self) {
-                unsafe { sys::$clear(self.state.as_mut_ptr(), self.state.len()) };
+                let number = unsafe { sys::$clear(self.state.as_mut_ptr(), self.state.len()) };
+                debug_assert_eq!(number, 0);
             }
 
             /// The last frame's score.
@@ -456,6 +478,13 @@ macro_rules! detector {
             }
         }
 
+        /// The state's words, without the memory that is lent.
+        impl fmt::Debug for $name {
+            fn fmt(&self, f: &mut fmt::Formatter<'_>) -> fmt::Result {
+                f.debug_struct(stringify!($name)).field("state", &self.state).finish_non_exhaustive()
+            }
+        }
+
         impl Default for $name {
             fn default() -> Self {
                 Self::new()
@@ -465,7 +494,7 @@ macro_rules! detector {
 }
 
 /// A cut is a frame whose score reaches the threshold, thinned by the filter.
-#[derive(Clone, Debug)]
+#[derive(Clone)]
 pub struct ContentDetector {
     state: Vec<u64>,
     lent: Lent,
@@ -512,7 +541,7 @@ impl ContentDetector {
 }
 
 /// A cut is a frame whose score stands out of those about it.
-#[derive(Clone, Debug)]
+#[derive(Clone)]
 pub struct AdaptiveDetector {
     state: Vec<u64>,
     lent: Lent,
