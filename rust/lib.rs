@@ -212,8 +212,9 @@ pub struct Answer {
 /// How cuts are kept `min_duration` apart.
 #[derive(Clone, Copy, Debug, PartialEq, Eq)]
 pub enum FilterMode {
-    /// Frames at or over the threshold that follow each other too closely are joined to one cut, reported at the stamp of the last
-    /// of them once scores have stayed below for `min_duration`.
+    /// A frame at or over the threshold is a cut if `min_duration` has passed since the last such frame. Else, once there was a cut,
+    /// it starts a merge, which takes in those after it. The merge ends at a frame below, `min_duration` or more past the last of
+    /// them, if they span `min_duration`: that last one is then the cut.
     Merge,
     /// A frame at or over the threshold is a cut if `min_duration` has passed since the last cut, and else is dropped.
     Suppress,
