@@ -15,7 +15,7 @@ ghost use Rattle.adaptive_calls.specs.Call.{callRefusal, called};
 ghost use Rattle.adaptive_words.specs.Record.{adaptiveWords, adaptiveOf};
 ghost use Rattle.station_answer.specs.Answer.{stamp, answerWords, scoreShown, componentAt};
 ghost use Rattle.station_answer.specs.Settings.{kernelSet, flagSet};
-ghost use Rattle.adaptive_station.specs.Told.{Told, Cleared, New};
+ghost use Rattle.adaptive_station.specs.Told.{Told, Cleared, settledBy, New};
 use adaptive::Answer;
 use adaptive::Detector;
 use adaptive::Options;
@@ -230,13 +230,13 @@ pub fn clear(state: &mut [u64]) -> u32
     0
 }
 
-// Writes what a settings call returns, and gives its number.
+// Writes what a settings call returns, and gives its number; 15 and nothing where the state is too short.
 fn write_settled(state: &mut [u64], x: Settled) -> u32
-    requires { ⌜ 288 ≤ length (now state) ⌝ }
-    ensures { λ r. ⌜ r ≡ x .number ⌝ }
-    ensures { λ _. ⌜ now (state .exit) ≡ adaptiveWords (x .detector) ++ drop 288 (now (state .entry)) ⌝ }
-    ensures { λ _. ⌜ adaptiveOf (now (state .exit)) ≡ x .detector ⌝ }
+    ensures { λ r. ⌜ New x (ltb (length (now (state .entry))) 288) r (now (state .entry)) (now (state .exit)) ⌝ }
 {
+    if state.len() < 288 {
+        return 15;
+    }
     let d = x.detector;
     adaptive_words::write(state, d);
     x.number
@@ -246,9 +246,6 @@ fn write_settled(state: &mut [u64], x: Settled) -> u32
 pub fn new_default(state: &mut [u64]) -> u32
     ensures { λ r. ⌜ New (settled defaults) (ltb (length (now (state .entry))) 288) r (now (state .entry)) (now (state .exit)) ⌝ }
 {
-    if state.len() < 288 {
-        return 15;
-    }
     write_settled(state, adaptive::try_new(Options::new()))
 }
 
@@ -276,8 +273,39 @@ fn options_by(
     }
 }
 
-// A fresh state with these settings. initial_cut is 0 or 1, and other numbers are refused by 15, as a state too short is; nothing is
-// written then. kernel_size 0 is not set. Settings that are refused leave a fresh state with the defaults.
+// What settings by numbers return: initial_cut is 0 or 1, and other numbers are refused by 15.
+fn settled_by(
+    threshold: f64,
+    min_duration: u64,
+    window_width: u32,
+    min_content_val: f64,
+    weights: Components,
+    kernel_size: u32,
+    initial_cut: u32,
+) -> Settled
+    ensures { λ r. ⌜ r ≡ settledBy (ltb 1 «initial_cut») (options threshold «min_duration» «window_width» «min_content_val» weights (kernelSet «kernel_size») (flagSet «initial_cut»)) ⌝ }
+{
+    if 1 < initial_cut {
+        let x = adaptive::try_new(Options::new());
+        let d = x.detector;
+        return Settled {
+            number: 15,
+            detector: d,
+        };
+    }
+    adaptive::try_new(options_by(
+        threshold,
+        min_duration,
+        window_width,
+        min_content_val,
+        weights,
+        kernel_size,
+        initial_cut,
+    ))
+}
+
+// A fresh state with these settings, or with the defaults where they are refused. initial_cut is 0 or 1, and other numbers are refused
+// by 15. kernel_size 0 is not set. A state too short is refused by 15 too, and nothing is written.
 pub fn try_new(
     state: &mut [u64],
     threshold: f64,
@@ -291,13 +319,10 @@ pub fn try_new(
     kernel_size: u32,
     initial_cut: u32,
 ) -> u32
-    ensures { λ r. ⌜ New (settled (options threshold «min_duration» «window_width» «min_content_val» (components·of hue saturation luma edges) (kernelSet «kernel_size») (flagSet «initial_cut»))) (ltb (length (now (state .entry))) 288 || ltb 1 «initial_cut») r (now (state .entry)) (now (state .exit)) ⌝ }
+    ensures { λ r. ⌜ New (settledBy (ltb 1 «initial_cut») (options threshold «min_duration» «window_width» «min_content_val» (components·of hue saturation luma edges) (kernelSet «kernel_size») (flagSet «initial_cut»))) (ltb (length (now (state .entry))) 288) r (now (state .entry)) (now (state .exit)) ⌝ }
 {
-    if (state.len() < 288) | (1 < initial_cut) {
-        return 15;
-    }
     let weights = Components::new(hue, saturation, luma, edges);
-    let o = options_by(
+    let x = settled_by(
         threshold,
         min_duration,
         window_width,
@@ -306,7 +331,7 @@ pub fn try_new(
         kernel_size,
         initial_cut,
     );
-    write_settled(state, adaptive::try_new(o))
+    write_settled(state, x)
 }
 
 // The readers refuse nothing and show the record as it is. Whether there is a last score: 1 or 0.

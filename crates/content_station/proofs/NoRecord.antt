@@ -1,15 +1,19 @@
 -- What is no record is refused by 15, whatever the call.
-use mathlib.Core.Path.{_≡_, sym, _∙_}
-use mathlib.Core.Bool.{true, false}
+use mathlib.Core.Path.{_≡_, refl, sym, ap, _∙_}
+use mathlib.Core.Bool.{Bool, true, false, cond}
 use mathlib.Core.List.{List}
 use Prim.Native.Nat.{ℕ}
 use native.Mathlib.Decide.{ℕ-discrete}
+use lib.Dec.{ltb}
+use lib.ListN.{length}
 use Rattle.content.specs.declared.Detector.{Detector}
 use Rattle.content.specs.State.{badState, clearedAnswer}
-use Rattle.content_calls.specs.Call.{Call, luma, bgr, hsv, clear, called}
+use Rattle.content_calls.specs.Call.{Memory, Call, luma, bgr, hsv, clear, called}
 use Rattle.content_frames.proofs.Refusals.{is-bad}
 use Rattle.content_words.specs.Record.{isContent, contentOf}
 use Rattle.content_words.proofs.Refused.{no-record-bad}
+use Rattle.station_answer.specs.Answer.{shortNumber, numberWith}
+use Rattle.content_station.specs.Told.{Told, Cleared}
 use Rattle.content_station.proofs.Laws.{call-number}
 
 cleared : (d : Detector) → badState d ≡ true → clearedAnswer d .number ≡ 15
@@ -21,3 +25,18 @@ no-record-refused s (luma plane w h stride ts m) e = sym (is-bad (contentOf s) _
 no-record-refused s (bgr pixels w h stride ts m) e = sym (is-bad (contentOf s) _ _ (no-record-bad s e) ∙ call-number (contentOf s) _ w h _ ts (m .store) (ℕ-discrete _ 0))
 no-record-refused s (hsv hs ss vs w h stride ts m) e = sym (is-bad (contentOf s) _ _ (no-record-bad s e) ∙ call-number (contentOf s) _ w h _ ts (m .store) (ℕ-discrete _ 0))
 no-record-refused s clear e = cleared (contentOf s) (no-record-bad s e)
+
+fifteen : (words : ℕ) → numberWith 15 words ≡ 15
+unfolding numberWith shortNumber
+fifteen words = either (ltb words 8)
+  where
+    either : (b : Bool) → _≡_ {A = ℕ} (cond b 15 15) 15
+    either true = refl
+    either false = refl
+
+-- the number that a frame call returns, and that `clear` returns
+pub told-15 : (s s′ a a′ : List ℕ) (m m′ : Memory) (c : Call) (r : ℕ) → isContent s ≡ false → Told (called (contentOf s) c) r s s′ a a′ m m′ → r ≡ 15
+told-15 s s′ a a′ m m′ c r e told = told .number ∙ ap (λ n. numberWith n (length a)) (no-record-refused s c e) ∙ fifteen (length a)
+
+pub cleared-15 : (s s′ : List ℕ) (r : ℕ) → isContent s ≡ false → Cleared (clearedAnswer (contentOf s)) r s s′ → r ≡ 15
+cleared-15 s s′ r e told = told .number ∙ cleared (contentOf s) (no-record-bad s e)

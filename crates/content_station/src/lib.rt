@@ -14,7 +14,7 @@ ghost use Rattle.content_calls.specs.Call.{luma, bgr, hsv, memory, callRefusal,
 ghost use Rattle.content_words.specs.Record.{contentWords, contentOf};
 ghost use Rattle.station_answer.specs.Answer.{stamp, answerWords, scoreShown, componentAt};
 ghost use Rattle.station_answer.specs.Settings.{modeSet, kernelSet, flagSet};
-ghost use Rattle.content_station.specs.Told.{Told, Cleared, New};
+ghost use Rattle.content_station.specs.Told.{Told, Cleared, settledBy, New};
 use content::Answer;
 use content::Detector;
 use content::Options;
@@ -229,13 +229,13 @@ pub fn clear(state: &mut [u64]) -> u32
     0
 }
 
-// Writes what a settings call returns, and gives its number.
+// Writes what a settings call returns, and gives its number; 15 and nothing where the state is too short.
 fn write_settled(state: &mut [u64], x: Settled) -> u32
-    requires { ⌜ 27 ≤ length (now state) ⌝ }
-    ensures { λ r. ⌜ r ≡ x .number ⌝ }
-    ensures { λ _. ⌜ now (state .exit) ≡ contentWords (x .detector) ++ drop 27 (now (state .entry)) ⌝ }
-    ensures { λ _. ⌜ contentOf (now (state .exit)) ≡ x .detector ⌝ }
+    ensures { λ r. ⌜ New x (ltb (length (now (state .entry))) 27) r (now (state .entry)) (now (state .exit)) ⌝ }
 {
+    if state.len() < 27 {
+        return 15;
+    }
     let d = x.detector;
     content_words::write(state, d);
     x.number
@@ -245,9 +245,6 @@ fn write_settled(state: &mut [u64], x: Settled) -> u32
 pub fn new_default(state: &mut [u64]) -> u32
     ensures { λ r. ⌜ New (settled defaults) (ltb (length (now (state .entry))) 27) r (now (state .entry)) (now (state .exit)) ⌝ }
 {
-    if state.len() < 27 {
-        return 15;
-    }
     write_settled(state, content::try_new(Options::new()))
 }
 
@@ -274,9 +271,38 @@ fn options_by(
     }
 }
 
-// A fresh state with these settings. filter_mode is 0 for Merge and 1 for Suppress, initial_cut 0 or 1, and other numbers are refused
-// by 15, as a state too short is; nothing is written then. kernel_size 0 is not set. Settings that are refused leave a fresh state
-// with the defaults.
+// What settings by numbers return: filter_mode is 0 for Merge and 1 for Suppress, initial_cut 0 or 1, and other numbers are refused by 15.
+fn settled_by(
+    threshold: f64,
+    min_duration: u64,
+    weights: Components,
+    filter_mode: u32,
+    kernel_size: u32,
+    initial_cut: u32,
+) -> Settled
+    ensures { λ r. ⌜ r ≡ settledBy (ltb 1 «filter_mode» || ltb 1 «initial_cut») (options threshold «min_duration» weights (modeSet «filter_mode») (kernelSet «kernel_size») (flagSet «initial_cut»)) ⌝ }
+{
+    if (1 < filter_mode) | (1 < initial_cut) {
+        let x = content::try_new(Options::new());
+        let d = x.detector;
+        return Settled {
+            number: 15,
+            detector: d,
+        };
+    }
+    content::try_new(options_by(
+        threshold,
+        min_duration,
+        weights,
+        filter_mode,
+        kernel_size,
+        initial_cut,
+    ))
+}
+
+// A fresh state with these settings, or with the defaults where they are refused. filter_mode is 0 for Merge and 1 for Suppress,
+// initial_cut 0 or 1, and other numbers are refused by 15. kernel_size 0 is not set. A state too short is refused by 15 too, and nothing
+// is written.
 pub fn try_new(
     state: &mut [u64],
     threshold: f64,
@@ -289,13 +315,10 @@ pub fn try_new(
     kernel_size: u32,
     initial_cut: u32,
 ) -> u32
-    ensures { λ r. ⌜ New (settled (options threshold «min_duration» (components·of hue saturation luma edges) (modeSet «filter_mode») (kernelSet «kernel_size») (flagSet «initial_cut»))) (ltb (length (now (state .entry))) 27 || ltb 1 «filter_mode» || ltb 1 «initial_cut») r (now (state .entry)) (now (state .exit)) ⌝ }
+    ensures { λ r. ⌜ New (settledBy (ltb 1 «filter_mode» || ltb 1 «initial_cut») (options threshold «min_duration» (components·of hue saturation luma edges) (modeSet «filter_mode») (kernelSet «kernel_size») (flagSet «initial_cut»))) (ltb (length (now (state .entry))) 27) r (now (state .entry)) (now (state .exit)) ⌝ }
 {
-    if (state.len() < 27) | (1 < filter_mode) | (1 < initial_cut) {
-        return 15;
-    }
     let weights = Components::new(hue, saturation, luma, edges);
-    let o = options_by(
+    let x = settled_by(
         threshold,
         min_duration,
         weights,
@@ -303,7 +326,7 @@ pub fn try_new(
         kernel_size,
         initial_cut,
     );
-    write_settled(state, content::try_new(o))
+    write_settled(state, x)
 }
 
 // The readers refuse nothing and show the record as it is. Whether there is a last score: 1 or 0.

@@ -12,7 +12,7 @@ ghost use Rattle.adaptive_calls.specs.Call.{called};
 ghost use Rattle.adaptive_words.specs.Record.{adaptiveOf};
 ghost use Rattle.station_answer.specs.Answer.{stamp, scoreShown, componentAt};
 ghost use Rattle.station_answer.specs.Settings.{kernelSet, flagSet};
-ghost use Rattle.adaptive_station.specs.Told.{Told, Cleared, New};
+ghost use Rattle.adaptive_station.specs.Told.{Told, Cleared, settledBy, New};
 
 // A luma frame.
 #[no_mangle]
@@ -124,8 +124,8 @@ pub extern "C" fn mw_adaptive_default(state: &mut [u64]) -> u32
     adaptive_station::new_default(state)
 }
 
-// A fresh state with these settings. initial_cut is 0 or 1, and other numbers are refused by 15, as a state too short is; nothing is
-// written then. kernel_size 0 is not set. Settings that are refused leave a fresh state with the defaults.
+// A fresh state with these settings, or with the defaults where they are refused. initial_cut is 0 or 1, and other numbers are refused
+// by 15. kernel_size 0 is not set. A state too short is refused by 15 too, and nothing is written.
 #[no_mangle]
 pub extern "C" fn mw_adaptive_new(
     state: &mut [u64],
@@ -140,7 +140,7 @@ pub extern "C" fn mw_adaptive_new(
     kernel_size: u32,
     initial_cut: u32,
 ) -> u32
-    ensures { λ r. ⌜ New (settled (options threshold «min_duration» «window_width» «min_content_val» (components·of hue saturation luma edges) (kernelSet «kernel_size») (flagSet «initial_cut»))) (ltb (length (now (state .entry))) 288 || ltb 1 «initial_cut») r (now (state .entry)) (now (state .exit)) ⌝ }
+    ensures { λ r. ⌜ New (settledBy (ltb 1 «initial_cut») (options threshold «min_duration» «window_width» «min_content_val» (components·of hue saturation luma edges) (kernelSet «kernel_size») (flagSet «initial_cut»))) (ltb (length (now (state .entry))) 288) r (now (state .entry)) (now (state .exit)) ⌝ }
 {
     adaptive_station::try_new(
         state,

@@ -11,7 +11,7 @@ ghost use Rattle.content_calls.specs.Call.{luma, bgr, hsv, memory, called};
 ghost use Rattle.content_words.specs.Record.{contentOf};
 ghost use Rattle.station_answer.specs.Answer.{stamp, scoreShown, componentAt};
 ghost use Rattle.station_answer.specs.Settings.{modeSet, kernelSet, flagSet};
-ghost use Rattle.content_station.specs.Told.{Told, Cleared, New};
+ghost use Rattle.content_station.specs.Told.{Told, Cleared, settledBy, New};
 
 // A luma frame.
 #[no_mangle]
@@ -123,9 +123,9 @@ pub extern "C" fn mw_content_default(state: &mut [u64]) -> u32
     content_station::new_default(state)
 }
 
-// A fresh state with these settings. filter_mode is 0 for Merge and 1 for Suppress, initial_cut 0 or 1, and other numbers are refused
-// by 15, as a state too short is; nothing is written then. kernel_size 0 is not set. Settings that are refused leave a fresh state
-// with the defaults.
+// A fresh state with these settings, or with the defaults where they are refused. filter_mode is 0 for Merge and 1 for Suppress,
+// initial_cut 0 or 1, and other numbers are refused by 15. kernel_size 0 is not set. A state too short is refused by 15 too, and nothing
+// is written.
 #[no_mangle]
 pub extern "C" fn mw_content_new(
     state: &mut [u64],
@@ -139,7 +139,7 @@ pub extern "C" fn mw_content_new(
     kernel_size: u32,
     initial_cut: u32,
 ) -> u32
-    ensures { λ r. ⌜ New (settled (options threshold «min_duration» (components·of hue saturation luma edges) (modeSet «filter_mode») (kernelSet «kernel_size») (flagSet «initial_cut»))) (ltb (length (now (state .entry))) 27 || ltb 1 «filter_mode» || ltb 1 «initial_cut») r (now (state .entry)) (now (state .exit)) ⌝ }
+    ensures { λ r. ⌜ New (settledBy (ltb 1 «filter_mode» || ltb 1 «initial_cut») (options threshold «min_duration» (components·of hue saturation luma edges) (modeSet «filter_mode») (kernelSet «kernel_size») (flagSet «initial_cut»))) (ltb (length (now (state .entry))) 27) r (now (state .entry)) (now (state .exit)) ⌝ }
 {
     content_station::try_new(
         state,
