@@ -69,8 +69,8 @@ int main(void)
     if (mw_content_clear(state, MW_CONTENT_WORDS) != MW_OK)
         return 1;
     for (int i = 0; i < 2; i++) {
-        if (mw_content_hsv(state, MW_CONTENT_WORDS, answer, MW_ANSWER_WORDS, &hue[i], 1, &saturation[i], 1, &value[i], 1, width, height, width,
-                           i * 40000, store, store_len, scratch, scratch_len, magnitudes, magnitudes_len) != MW_OK)
+        if (mw_content_hsv(state, MW_CONTENT_WORDS, answer, MW_ANSWER_WORDS, &hue[i], 1, &saturation[i], 1, &value[i], 1, width, height,
+                           width, i * 40000, store, store_len, scratch, scratch_len, magnitudes, magnitudes_len) != MW_OK)
             return 1;
         show("hsv", answer);
     }
