@@ -14,7 +14,9 @@
 
 use std::fmt;
 
-mod sys {
+/// The functions of the library as they are. `include/mawerodu.h` says what each does, and what is asked of a caller.
+#[allow(clippy::missing_safety_doc)]
+pub mod sys {
     extern "C" {
         pub fn mw_content_words() -> u64;
         pub fn mw_adaptive_words() -> u64;

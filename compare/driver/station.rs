@@ -1,7 +1,8 @@
-//! The station library: the C functions of the crate `station`, and whole lists of calls run through them. State and
-//! answer are lent words, laid out as include/mawerodu.h says.
+//! The station library: its C functions, as rust/lib.rs declares them, and whole lists of calls run through them. State
+//! and answer are lent words, laid out as include/mawerodu.h says.
 use crate::lists::{self, Film, Frame, Listed, Output};
 use crate::{adaptive_lists, content_lists};
+use mawerodu::sys as c;
 use scenesdetect::content::FilterMode;
 use scenesdetect::{adaptive, content};
 
@@ -45,124 +46,6 @@ type Hsv = unsafe extern "C" fn(
     *mut i32,
     usize,
 ) -> u32;
-
-mod c {
-    macro_rules! frames {
-        ($luma:ident, $bgr:ident, $hsv:ident) => {
-            unsafe extern "C" {
-                pub fn $luma(
-                    state: *mut u64,
-                    state_len: usize,
-                    answer: *mut u64,
-                    answer_len: usize,
-                    plane: *const u8,
-                    plane_len: usize,
-                    width: u32,
-                    height: u32,
-                    stride: u32,
-                    ts: i64,
-                    store: *mut u8,
-                    store_len: usize,
-                    scratch: *mut u8,
-                    scratch_len: usize,
-                    magnitudes: *mut i32,
-                    magnitudes_len: usize,
-                ) -> u32;
-                pub fn $bgr(
-                    state: *mut u64,
-                    state_len: usize,
-                    answer: *mut u64,
-                    answer_len: usize,
-                    pixels: *const u8,
-                    pixels_len: usize,
-                    width: u32,
-                    height: u32,
-                    stride: u32,
-                    ts: i64,
-                    store: *mut u8,
-                    store_len: usize,
-                    scratch: *mut u8,
-                    scratch_len: usize,
-                    magnitudes: *mut i32,
-                    magnitudes_len: usize,
-                ) -> u32;
-                pub fn $hsv(
-                    state: *mut u64,
-                    state_len: usize,
-                    answer: *mut u64,
-                    answer_len: usize,
-                    hue: *const u8,
-                    hue_len: usize,
-                    saturation: *const u8,
-                    saturation_len: usize,
-                    value: *const u8,
-                    value_len: usize,
-                    width: u32,
-                    height: u32,
-                    stride: u32,
-                    ts: i64,
-                    store: *mut u8,
-                    store_len: usize,
-                    scratch: *mut u8,
-                    scratch_len: usize,
-                    magnitudes: *mut i32,
-                    magnitudes_len: usize,
-                ) -> u32;
-            }
-        };
-    }
-    frames!(mw_content_luma, mw_content_bgr, mw_content_hsv);
-    frames!(mw_adaptive_luma, mw_adaptive_bgr, mw_adaptive_hsv);
-    unsafe extern "C" {
-        pub fn mw_content_words() -> u64;
-        pub fn mw_adaptive_words() -> u64;
-        pub fn mw_answer_words() -> u64;
-        pub fn mw_store_bytes(width: u32, height: u32) -> u64;
-        pub fn mw_scratch_bytes(width: u32, height: u32) -> u64;
-        pub fn mw_magnitudes(width: u32, height: u32) -> u64;
-        pub fn mw_content_new(
-            state: *mut u64,
-            state_len: usize,
-            threshold: f64,
-            min_duration: u64,
-            hue: f64,
-            saturation: f64,
-            luma: f64,
-            edges: f64,
-            filter_mode: u32,
-            kernel_size: u32,
-            initial_cut: u32,
-        ) -> u32;
-        pub fn mw_adaptive_new(
-            state: *mut u64,
-            state_len: usize,
-            threshold: f64,
-            min_duration: u64,
-            window_width: u32,
-            min_content_val: f64,
-            hue: f64,
-            saturation: f64,
-            luma: f64,
-            edges: f64,
-            kernel_size: u32,
-            initial_cut: u32,
-        ) -> u32;
-        pub fn mw_content_clear(state: *mut u64, state_len: usize) -> u32;
-        pub fn mw_adaptive_clear(state: *mut u64, state_len: usize) -> u32;
-        pub fn mw_content_has_score(state: *const u64, state_len: usize) -> u32;
-        pub fn mw_content_score(state: *const u64, state_len: usize) -> f64;
-        pub fn mw_content_has_components(state: *const u64, state_len: usize) -> u32;
-        pub fn mw_content_component(state: *const u64, state_len: usize, place: u32) -> f64;
-        pub fn mw_adaptive_has_score(state: *const u64, state_len: usize) -> u32;
-        pub fn mw_adaptive_score(state: *const u64, state_len: usize) -> f64;
-        pub fn mw_adaptive_has_components(state: *const u64, state_len: usize) -> u32;
-        pub fn mw_adaptive_component(state: *const u64, state_len: usize, place: u32) -> f64;
-        pub fn mw_adaptive_has_ratio(state: *const u64, state_len: usize) -> u32;
-        pub fn mw_adaptive_ratio(state: *const u64, state_len: usize) -> f64;
-        pub fn mw_adaptive_has_target(state: *const u64, state_len: usize) -> u32;
-        pub fn mw_adaptive_target(state: *const u64, state_len: usize) -> f64;
-    }
-}
 
 type Has = unsafe extern "C" fn(*const u64, usize) -> u32;
 type Shown = unsafe extern "C" fn(*const u64, usize) -> f64;

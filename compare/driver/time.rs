@@ -47,19 +47,26 @@ fn row(name: &str, rust: f64, rattle: f64) {
     println!("{name:<36} {rust:>8.2} {rattle:>8.2} {:>8.3}", rattle / rust);
 }
 
-/// Two frames of one size: BGR, whose first n bytes are the luma and whose three thirds are the HSV planes.
+/// Two frames of one size: BGR, and its three channels as planes, of which the first serves as luma and all as HSV.
 struct Film {
     width: u32,
     height: u32,
     frames: [Vec<u8>; 2],
+    planes: [[Vec<u8>; 3]; 2],
 }
 
 impl Film {
+    fn new(width: u32, height: u32, frames: [Vec<u8>; 2]) -> Self {
+        let channel = |frame: &Vec<u8>, c| frame.iter().skip(c).step_by(3).copied().collect();
+        let planes = [0, 1].map(|i| [0, 1, 2].map(|c| channel(&frames[i], c)));
+        Film { width, height, frames, planes }
+    }
+
     /// Every byte random.
     fn noise(width: u32, height: u32) -> Self {
         let mut generator = Generator(5);
         let frames = [(); 2].map(|_| generator.shades(3 * (width * height) as usize, 0));
-        Film { width, height, frames }
+        Film::new(width, height, frames)
     }
 
     /// Two gradients with discs of other colours, and faint noise.
@@ -69,7 +76,7 @@ impl Film {
             let places = (0..height).flat_map(|y| (0..width).map(move |x| (x, y)));
             places.flat_map(|(x, y)| smooth_pixel(x + shift, y + shift, width, height, &mut generator)).collect()
         });
-        Film { width, height, frames }
+        Film::new(width, height, frames)
     }
 
     fn n(&self) -> usize {
@@ -77,8 +84,7 @@ impl Film {
     }
 
     fn planes(&self, i: usize) -> [&[u8]; 3] {
-        let (n, frame) = (self.n(), &self.frames[i % 2]);
-        [&frame[..n], &frame[n..2 * n], &frame[2 * n..]]
+        self.planes[i % 2].each_ref().map(|plane| &plane[..])
     }
 }
 
