@@ -15,6 +15,7 @@ pub fn rows(which: Lists) -> Vec<Row> {
     let mut rows = vec![
         pixels(),
         bgr_to_hsv_planes(),
+        BGR_TO_HSV.wide("bgr_to_hsv_planes, wide rows"),
         copy_plane(),
         sums(),
         means(),
@@ -117,17 +118,31 @@ impl Conversion {
         });
         row
     }
+
+    /// Rows of 1 to 1,100 pixels, some to 4,096: the proved side works in blocks of 256.
+    fn wide(&self, name: &'static str) -> Row {
+        let mut row = Row::new(name);
+        let mut generator = Generator(3);
+        for width in (1..=1100).chain([1920, 2048, 3839, 4095, 4096]) {
+            let (height, stride) = (1 + width % 3, self.bytes * width + width % 2);
+            let src = generator.shades((height * stride) as usize, width % KINDS);
+            let before = generator.shades(self.count * (width * height) as usize + 5, 0);
+            self.one(&mut row, &before, before.len() - 5, &src, (width, height, stride));
+        }
+        row
+    }
 }
 
+const BGR_TO_HSV: Conversion = Conversion {
+    bytes: 3,
+    count: 3,
+    check: rust::check_bgr,
+    rust: rust::bgr_to_hsv_planes,
+    rattle: rattle::bgr_to_hsv_planes,
+};
+
 fn bgr_to_hsv_planes() -> Row {
-    let conversion = Conversion {
-        bytes: 3,
-        count: 3,
-        check: rust::check_bgr,
-        rust: rust::bgr_to_hsv_planes,
-        rattle: rattle::bgr_to_hsv_planes,
-    };
-    conversion.all("bgr_to_hsv_planes, answer and memory")
+    BGR_TO_HSV.all("bgr_to_hsv_planes, answer and memory")
 }
 
 fn copy_plane() -> Row {
