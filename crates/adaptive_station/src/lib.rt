@@ -1,56 +1,26 @@
-// The adaptive detector's calls on lent words. Its state is 288 words, as the crate `adaptive_words` lays them out; what is no record is refused by 15.
+// The adaptive detector's calls on lent words. Its state is 288 words, as the crate `adaptive_words` lays them out, its answer eight; what is
+// not a record is refused by 15.
 ghost use mathlib.Core.Path.{_≡_};
-ghost use mathlib.Core.Bool.{_||_};
-ghost use mathlib.Core.List.{_++_};
-ghost use Prim.Native.Nat.{_≤_};
-ghost use lib.Dec.{ltb};
-ghost use lib.ListN.{length, drop};
-ghost use Rattle.stream.specs.Stream.{memoryRefusal};
 ghost use Rattle.score.specs.Scores.{components as components·of};
 ghost use Rattle.words.specs.Choices.{scoreTag, componentsTag, componentsShown};
 ghost use Rattle.adaptive.specs.Options.{options, defaults};
-ghost use Rattle.adaptive.specs.State.{settled, clearedAnswer};
-ghost use Rattle.content_calls.specs.Call.{luma, bgr, hsv, memory};
-ghost use Rattle.adaptive_calls.specs.Call.{callRefusal, called};
+ghost use Rattle.adaptive.specs.State.{settled};
+ghost use Rattle.content_calls.specs.Call.{luma, bgr, hsv, clear, memory};
 ghost use Rattle.adaptive_words.specs.Record.{adaptiveWords, adaptiveOf};
-ghost use Rattle.station_answer.specs.Answer.{stamp, answerWords, scoreShown, componentAt};
+ghost use Rattle.station_answer.specs.Answer.{stamp, answerWords, ReadAs, scoreShown, componentAt};
 ghost use Rattle.station_answer.specs.Settings.{kernelSet, flagSet};
-ghost use Rattle.adaptive_station.specs.Told.{Told, Cleared, settledBy, New};
+ghost use Rattle.station_answer.specs.Contracts.{FrameContract, ClearContract, SettingsContract};
+ghost use Rattle.adaptive_station.specs.Station.{adaptiveLayout, adaptiveCall, startedBy};
 use adaptive::Answer;
-use adaptive::Detector;
 use adaptive::Options;
 use adaptive::Settled;
 use score::Components;
 use timestamp::Timestamp;
 
-// The number of a frame call's refusal, or 0, by that of the frame.
-fn call_number(
-    d: Detector,
-    frame: u32,
-    store: usize,
-    scratch: usize,
-    magnitudes: usize,
-    width: u32,
-    height: u32,
-) -> u32
-    requires { ⌜ (frame ≡ 0 → (width ≤ 4096) × (height ≤ 4096)) ⌝ }
-    ensures { λ r. ⌜ r ≡ callRefusal d frame (memoryRefusal store scratch magnitudes width height) ⌝ }
-{
-    if adaptive::is_bad(d) {
-        return 15;
-    }
-    if 0 < frame {
-        return frame;
-    }
-    stream::memory_refusal(store, scratch, magnitudes, width, height)
-}
-
 // Writes what an accepted frame call brings: the new state and the answer.
-fn write_done(state: &mut [u64], answer: &mut [u64], a: Answer)
-    requires { ⌜ (288 ≤ length (now state)) × (8 ≤ length (now answer)) ⌝ }
-    ensures { λ _. ⌜ now (state .exit) ≡ adaptiveWords (a .detector) ++ drop 288 (now (state .entry)) ⌝ }
-    ensures { λ _. ⌜ adaptiveOf (now (state .exit)) ≡ a .detector ⌝ }
-    ensures { λ _. ⌜ now (answer .exit) ≡ answerWords (a .cut) (a .score) (a .components) ++ drop 8 (now (answer .entry)) ⌝ }
+fn write_done(state: &mut [u64; 288], answer: &mut [u64; 8], a: Answer)
+    ensures { λ _. ⌜ (now (state .exit) ≡ adaptiveWords (a .detector)) × (adaptiveOf (now (state .exit)) ≡ a .detector) ⌝ }
+    ensures { λ _. ⌜ (now (answer .exit) ≡ answerWords (a .cut) (a .score) (a .components)) × ReadAs (a .cut) (a .score) (a .components) (now (answer .exit)) ⌝ }
 {
     let d = a.detector;
     let cut = a.cut;
@@ -62,8 +32,8 @@ fn write_done(state: &mut [u64], answer: &mut [u64], a: Answer)
 
 // A luma frame.
 pub fn process_luma(
-    state: &mut [u64],
-    answer: &mut [u64],
+    state: &mut [u64; 288],
+    answer: &mut [u64; 8],
     plane: &[u8],
     width: u32,
     height: u32,
@@ -73,22 +43,9 @@ pub fn process_luma(
     scratch: &mut [u8],
     magnitudes: &mut [i32],
 ) -> u32
-    ensures { λ r. ⌜ Told (called (adaptiveOf (now (state .entry))) (luma (now (plane .entry)) width height stride (stamp ts) (memory (now (store .entry)) (now (scratch .entry)) (now (magnitudes .entry))))) r (now (state .entry)) (now (state .exit)) (now (answer .entry)) (now (answer .exit)) (memory (now (store .entry)) (now (scratch .entry)) (now (magnitudes .entry))) (memory (now (store .exit)) (now (scratch .exit)) (now (magnitudes .exit))) ⌝ }
+    ensures { λ r. ⌜ FrameContract adaptiveLayout (adaptiveCall (adaptiveOf (now (state .entry))) (luma (now (plane .entry)) width height stride (stamp ts) (memory (now (store .entry)) (now (scratch .entry)) (now (magnitudes .entry))))) r (now (state .entry)) (now (state .exit)) (now (answer .entry)) (now (answer .exit)) (memory (now (store .entry)) (now (scratch .entry)) (now (magnitudes .entry))) (memory (now (store .exit)) (now (scratch .exit)) (now (magnitudes .exit))) ⌝ }
 {
     let d = adaptive_words::read(state);
-    if answer.len() < 8 {
-        let frame = frame::luma_refusal(plane.len(), width, height, stride);
-        let number = call_number(
-            d,
-            frame,
-            store.len(),
-            scratch.len(),
-            magnitudes.len(),
-            width,
-            height,
-        );
-        return station_answer::short_answer(number);
-    }
     let a = adaptive_frames::process_luma(
         d,
         plane,
@@ -110,8 +67,8 @@ pub fn process_luma(
 
 // A BGR frame.
 pub fn process_bgr(
-    state: &mut [u64],
-    answer: &mut [u64],
+    state: &mut [u64; 288],
+    answer: &mut [u64; 8],
     pixels: &[u8],
     width: u32,
     height: u32,
@@ -121,22 +78,9 @@ pub fn process_bgr(
     scratch: &mut [u8],
     magnitudes: &mut [i32],
 ) -> u32
-    ensures { λ r. ⌜ Told (called (adaptiveOf (now (state .entry))) (bgr (now (pixels .entry)) width height stride (stamp ts) (memory (now (store .entry)) (now (scratch .entry)) (now (magnitudes .entry))))) r (now (state .entry)) (now (state .exit)) (now (answer .entry)) (now (answer .exit)) (memory (now (store .entry)) (now (scratch .entry)) (now (magnitudes .entry))) (memory (now (store .exit)) (now (scratch .exit)) (now (magnitudes .exit))) ⌝ }
+    ensures { λ r. ⌜ FrameContract adaptiveLayout (adaptiveCall (adaptiveOf (now (state .entry))) (bgr (now (pixels .entry)) width height stride (stamp ts) (memory (now (store .entry)) (now (scratch .entry)) (now (magnitudes .entry))))) r (now (state .entry)) (now (state .exit)) (now (answer .entry)) (now (answer .exit)) (memory (now (store .entry)) (now (scratch .entry)) (now (magnitudes .entry))) (memory (now (store .exit)) (now (scratch .exit)) (now (magnitudes .exit))) ⌝ }
 {
     let d = adaptive_words::read(state);
-    if answer.len() < 8 {
-        let frame = frame::bgr_refusal(pixels.len(), width, height, stride);
-        let number = call_number(
-            d,
-            frame,
-            store.len(),
-            scratch.len(),
-            magnitudes.len(),
-            width,
-            height,
-        );
-        return station_answer::short_answer(number);
-    }
     let a = adaptive_frames::process_bgr(
         d,
         pixels,
@@ -158,8 +102,8 @@ pub fn process_bgr(
 
 // An HSV frame.
 pub fn process_hsv(
-    state: &mut [u64],
-    answer: &mut [u64],
+    state: &mut [u64; 288],
+    answer: &mut [u64; 8],
     hue: &[u8],
     saturation: &[u8],
     value: &[u8],
@@ -171,29 +115,9 @@ pub fn process_hsv(
     scratch: &mut [u8],
     magnitudes: &mut [i32],
 ) -> u32
-    ensures { λ r. ⌜ Told (called (adaptiveOf (now (state .entry))) (hsv (now (hue .entry)) (now (saturation .entry)) (now (value .entry)) width height stride (stamp ts) (memory (now (store .entry)) (now (scratch .entry)) (now (magnitudes .entry))))) r (now (state .entry)) (now (state .exit)) (now (answer .entry)) (now (answer .exit)) (memory (now (store .entry)) (now (scratch .entry)) (now (magnitudes .entry))) (memory (now (store .exit)) (now (scratch .exit)) (now (magnitudes .exit))) ⌝ }
+    ensures { λ r. ⌜ FrameContract adaptiveLayout (adaptiveCall (adaptiveOf (now (state .entry))) (hsv (now (hue .entry)) (now (saturation .entry)) (now (value .entry)) width height stride (stamp ts) (memory (now (store .entry)) (now (scratch .entry)) (now (magnitudes .entry))))) r (now (state .entry)) (now (state .exit)) (now (answer .entry)) (now (answer .exit)) (memory (now (store .entry)) (now (scratch .entry)) (now (magnitudes .entry))) (memory (now (store .exit)) (now (scratch .exit)) (now (magnitudes .exit))) ⌝ }
 {
     let d = adaptive_words::read(state);
-    if answer.len() < 8 {
-        let frame = frame::hsv_refusal(
-            hue.len(),
-            saturation.len(),
-            value.len(),
-            width,
-            height,
-            stride,
-        );
-        let number = call_number(
-            d,
-            frame,
-            store.len(),
-            scratch.len(),
-            magnitudes.len(),
-            width,
-            height,
-        );
-        return station_answer::short_answer(number);
-    }
     let a = adaptive_frames::process_hsv(
         d,
         hue,
@@ -216,8 +140,8 @@ pub fn process_hsv(
 }
 
 // Forgets the stream: settings and size stay, all else is as at the start.
-pub fn clear(state: &mut [u64]) -> u32
-    ensures { λ r. ⌜ Cleared (clearedAnswer (adaptiveOf (now (state .entry)))) r (now (state .entry)) (now (state .exit)) ⌝ }
+pub fn clear(state: &mut [u64; 288]) -> u32
+    ensures { λ r. ⌜ ClearContract adaptiveLayout (adaptiveCall (adaptiveOf (now (state .entry))) clear) r (now (state .entry)) (now (state .exit)) ⌝ }
 {
     let d = adaptive_words::read(state);
     let a = adaptive::clear(d);
@@ -230,21 +154,18 @@ pub fn clear(state: &mut [u64]) -> u32
     0
 }
 
-// Writes what a settings call returns, and gives its number; 15 and nothing where the state is too short.
-fn write_settled(state: &mut [u64], x: Settled) -> u32
-    ensures { λ r. ⌜ New x (ltb (length (now (state .entry))) 288) r (now (state .entry)) (now (state .exit)) ⌝ }
+// Writes what a settings call returns, and gives its number.
+fn write_settled(state: &mut [u64; 288], x: Settled) -> u32
+    ensures { λ r. ⌜ SettingsContract adaptiveLayout (startedBy x) r (now (state .exit)) ⌝ }
 {
-    if state.len() < 288 {
-        return 15;
-    }
     let d = x.detector;
     adaptive_words::write(state, d);
     x.number
 }
 
 // A fresh state with the default settings.
-pub fn new_default(state: &mut [u64]) -> u32
-    ensures { λ r. ⌜ New (settled defaults) (ltb (length (now (state .entry))) 288) r (now (state .entry)) (now (state .exit)) ⌝ }
+pub fn new_default(state: &mut [u64; 288]) -> u32
+    ensures { λ r. ⌜ SettingsContract adaptiveLayout (startedBy (settled defaults)) r (now (state .exit)) ⌝ }
 {
     write_settled(state, adaptive::try_new(Options::new()))
 }
@@ -256,12 +177,13 @@ fn options_by(
     window_width: u32,
     min_content_val: f64,
     weights: Components,
+    has_kernel: u32,
     kernel_size: u32,
     initial_cut: u32,
 ) -> Options
-    ensures { λ r. ⌜ r ≡ options threshold «min_duration» «window_width» «min_content_val» weights (kernelSet «kernel_size») (flagSet «initial_cut») ⌝ }
+    ensures { λ r. ⌜ r ≡ options threshold «min_duration» «window_width» «min_content_val» weights (kernelSet «has_kernel» «kernel_size») (flagSet «initial_cut») ⌝ }
 {
-    let kernel = station_answer::kernel_set(kernel_size);
+    let kernel = station_answer::kernel_set(has_kernel, kernel_size);
     Options {
         adaptive_threshold: threshold,
         min_duration: min_duration,
@@ -269,45 +191,13 @@ fn options_by(
         min_content_val: min_content_val,
         weights: weights,
         kernel_size: kernel,
-        initial_cut: initial_cut == 1,
+        initial_cut: station_answer::flag_set(initial_cut),
     }
 }
 
-// What settings by numbers return: initial_cut is 0 or 1, and other numbers are refused by 15.
-fn settled_by(
-    threshold: f64,
-    min_duration: u64,
-    window_width: u32,
-    min_content_val: f64,
-    weights: Components,
-    kernel_size: u32,
-    initial_cut: u32,
-) -> Settled
-    ensures { λ r. ⌜ r ≡ settledBy (ltb 1 «initial_cut») (options threshold «min_duration» «window_width» «min_content_val» weights (kernelSet «kernel_size») (flagSet «initial_cut»)) ⌝ }
-{
-    if 1 < initial_cut {
-        let x = adaptive::try_new(Options::new());
-        let d = x.detector;
-        return Settled {
-            number: 15,
-            detector: d,
-        };
-    }
-    adaptive::try_new(options_by(
-        threshold,
-        min_duration,
-        window_width,
-        min_content_val,
-        weights,
-        kernel_size,
-        initial_cut,
-    ))
-}
-
-// A fresh state with these settings, or with the defaults where they are refused. initial_cut is 0 or 1, and other numbers are refused
-// by 15. kernel_size 0 is not set. A state too short is refused by 15 too, and nothing is written.
+// A fresh state with these settings, or with the defaults where they are refused. A flag is off for 0, and on for any other number.
 pub fn try_new(
-    state: &mut [u64],
+    state: &mut [u64; 288],
     threshold: f64,
     min_duration: u64,
     window_width: u32,
@@ -316,75 +206,77 @@ pub fn try_new(
     saturation: f64,
     luma: f64,
     edges: f64,
+    has_kernel: u32,
     kernel_size: u32,
     initial_cut: u32,
 ) -> u32
-    ensures { λ r. ⌜ New (settledBy (ltb 1 «initial_cut») (options threshold «min_duration» «window_width» «min_content_val» (components·of hue saturation luma edges) (kernelSet «kernel_size») (flagSet «initial_cut»))) (ltb (length (now (state .entry))) 288) r (now (state .entry)) (now (state .exit)) ⌝ }
+    ensures { λ r. ⌜ SettingsContract adaptiveLayout (startedBy (settled (options threshold «min_duration» «window_width» «min_content_val» (components·of hue saturation luma edges) (kernelSet «has_kernel» «kernel_size») (flagSet «initial_cut»)))) r (now (state .exit)) ⌝ }
 {
     let weights = Components::new(hue, saturation, luma, edges);
-    let x = settled_by(
+    let o = options_by(
         threshold,
         min_duration,
         window_width,
         min_content_val,
         weights,
+        has_kernel,
         kernel_size,
         initial_cut,
     );
-    write_settled(state, x)
+    write_settled(state, adaptive::try_new(o))
 }
 
 // The readers refuse nothing and show the record as it is. Whether there is a last score: 1 or 0.
-pub fn has_score(state: &[u64]) -> u32
+pub fn has_score(state: &[u64; 288]) -> u32
     ensures { λ r. ⌜ r ≡ scoreTag (adaptiveOf (now (state .entry)) .stream .«last_score») ⌝ }
 {
     station_answer::has_score(adaptive::last_score(adaptive_words::read(state)))
 }
 
 // The last score, or 0.0.
-pub fn last_score(state: &[u64]) -> f64
+pub fn last_score(state: &[u64; 288]) -> f64
     ensures { λ r. ⌜ r ≡ scoreShown (adaptiveOf (now (state .entry)) .stream .«last_score») ⌝ }
 {
     station_answer::score_shown(adaptive::last_score(adaptive_words::read(state)))
 }
 
 // Whether there is a last ratio: 1 or 0.
-pub fn has_ratio(state: &[u64]) -> u32
+pub fn has_ratio(state: &[u64; 288]) -> u32
     ensures { λ r. ⌜ r ≡ scoreTag (adaptiveOf (now (state .entry)) .window .«last_adaptive_ratio») ⌝ }
 {
     station_answer::has_score(adaptive::last_adaptive_ratio(adaptive_words::read(state)))
 }
 
 // The last ratio, or 0.0.
-pub fn last_ratio(state: &[u64]) -> f64
+pub fn last_ratio(state: &[u64; 288]) -> f64
     ensures { λ r. ⌜ r ≡ scoreShown (adaptiveOf (now (state .entry)) .window .«last_adaptive_ratio») ⌝ }
 {
     station_answer::score_shown(adaptive::last_adaptive_ratio(adaptive_words::read(state)))
 }
 
 // Whether there is a last target score: 1 or 0.
-pub fn has_target(state: &[u64]) -> u32
+pub fn has_target(state: &[u64; 288]) -> u32
     ensures { λ r. ⌜ r ≡ scoreTag (adaptiveOf (now (state .entry)) .window .«last_target_score») ⌝ }
 {
     station_answer::has_score(adaptive::last_target_score(adaptive_words::read(state)))
 }
 
 // The last target score, or 0.0.
-pub fn last_target(state: &[u64]) -> f64
+pub fn last_target(state: &[u64; 288]) -> f64
     ensures { λ r. ⌜ r ≡ scoreShown (adaptiveOf (now (state .entry)) .window .«last_target_score») ⌝ }
 {
     station_answer::score_shown(adaptive::last_target_score(adaptive_words::read(state)))
 }
 
 // Whether there are last components: 1 or 0.
-pub fn has_components(state: &[u64]) -> u32
+pub fn has_components(state: &[u64; 288]) -> u32
     ensures { λ r. ⌜ r ≡ componentsTag (adaptiveOf (now (state .entry)) .stream .«last_components») ⌝ }
 {
     station_answer::has_components(adaptive::last_components(adaptive_words::read(state)))
 }
 
 // One of the last components, or 0.0: 0 is hue, 1 saturation, 2 luma, 3 edges.
-pub fn last_component(state: &[u64], place: u32) -> f64
+pub fn last_component(state: &[u64; 288], place: u32) -> f64
     ensures { λ r. ⌜ r ≡ componentAt (componentsShown (adaptiveOf (now (state .entry)) .stream .«last_components»)) place ⌝ }
 {
     station_answer::component_at(

@@ -1,14 +1,13 @@
 -- Five parts written one after the other are a record's words, and they are read as that record.
 use mathlib.Core.Path.{_≡_, refl, ap, _∙_}
 use mathlib.Core.Bool.{true}
-use mathlib.Core.List.{List, _++_, append-assoc}
-use Prim.Native.Nat.{ℕ, _+_}
+use mathlib.Core.List.{List, [], _++_, append-nil}
+use Prim.Native.Nat.{ℕ}
 use native.Mathlib.Omega.{arith}
-use borrow.Author.Tests.{le-leb}
 use borrow.Rule.Slice.PartMut.{putMid, postOf}
 use lib.Ieee.{Float}
 use lib.IntN.{ℤ}
-use lib.ListN.{length, take, drop, length-append}
+use lib.ListN.{length, take, drop, drop-of-length-le}
 use lib.Seq.{drop-drop}
 use Rattle.laws.proofs.Joined.{first-part, skip-part, skip-put, next-put}
 use Rattle.laws.proofs.Tab.{length-tabulate}
@@ -103,9 +102,6 @@ module _ (d : Detector) (a b c s x : List ℕ)
         ∙ skip-part s fifth 129 0 129 of-s
         ∙ first-part x rest 129 of-x
 
-    long : length whole ≡ 288 + length rest
-    long = simp length-append (omega (arith, of-a, of-b, of-c, of-s, of-x))
-
     read-back : adaptiveOf whole ≡ d
     unfolding adaptiveOf isAdaptive
     read-back =
@@ -115,7 +111,6 @@ module _ (d : Detector) (a b c s x : List ℕ)
           is-c,
           is-s,
           is-x,
-          le-leb 288 (length whole) (omega (arith, long)),
           ea .1 .0,
           eb .1 .0,
           ec .1 .0,
@@ -167,8 +162,11 @@ module _ (d : Detector) (a b c s x : List ℕ)
     placed : after ≡ a ++ (b ++ (c ++ (s ++ (x ++ drop 288 out))))
     placed = rw (e₁, e₂, e₃, e₄, e₅, put₂, put₃, put₄, put₅, rest-is)
 
-    regrouped : a ++ (b ++ (c ++ (s ++ (x ++ drop 288 out)))) ≡ (a ++ (b ++ (c ++ (s ++ x)))) ++ drop 288 out
-    regrouped = simp append-assoc
-
-    pub written : (after ≡ adaptiveWords d ++ drop 288 out) × (adaptiveOf after ≡ d)
-    written = (placed ∙ regrouped ∙ ap (λ (l : List ℕ). l ++ drop 288 out) joined, ap adaptiveOf placed ∙ read-back (drop 288 out))
+    pub written : length out ≡ 288 → (after ≡ adaptiveWords d) × (adaptiveOf after ≡ d)
+    written h =
+        let none : drop 288 out ≡ [] = drop-of-length-le out {i = 288} (omega (arith, h)) in
+        let whole : after ≡ a ++ (b ++ (c ++ (s ++ x))) =
+        placed
+        ∙ ap (λ (l : List ℕ). a ++ (b ++ (c ++ (s ++ (x ++ l))))) none
+        ∙ ap (λ (l : List ℕ). a ++ (b ++ (c ++ (s ++ l)))) (append-nil x) in
+        (whole ∙ joined, ap adaptiveOf placed ∙ read-back (drop 288 out))

@@ -2,8 +2,7 @@
 use mathlib.Core.Bool.{Bool, cond, _&&_}
 use mathlib.Core.List.{List, _++_}
 use Prim.Native.Nat.{ℕ}
-use lib.Dec.{leb}
-use lib.ListN.{length, take, drop}
+use lib.ListN.{take, drop}
 use Rattle.adaptive.specs.declared.Detector.{Detector}
 use Rattle.adaptive.specs.Options.{defaults, options}
 use Rattle.adaptive.specs.State.{fresh, zeroComponents}
@@ -16,11 +15,11 @@ adaptiveWords d =
     optionsWords (d .options)
     ++ (streamWords (d .stream) ++ (windowWords (d .window) ++ (stampsWords (d .window .stamps) ++ scoresWords (d .window .scores))))
 
--- there are 288 words, the version is this one, tags are 0 or 1, and fields of 32 bits have 32 bits. Later words are not looked at.
+-- the version is this one, tags are 0 or 1, and fields of 32 bits have 32 bits
 unfoldable pub isAdaptive : List ℕ → Bool
-isAdaptive w = leb 288 (length w) && (isOptions (take 12 w) && isStream (take 10 (drop 12 w)) && isWindow (take 8 (drop 22 w)))
+isAdaptive w = isOptions (take 12 w) && isStream (take 10 (drop 12 w)) && isWindow (take 8 (drop 22 w))
 
--- what is read where the words are no record: the weights are zero, so that every call refuses it by 15
+-- what is read where the words are not a record: the weights are zero, so that every call refuses it by 15
 unfoldable pub foreign : Detector
 foreign =
     fresh

@@ -1,10 +1,8 @@
-// The adaptive detector's record in 288 words: a version, then each field, and the window's places. Any words are read: what is no
+// The adaptive detector's record in 288 words: a version, then each field, and the window's places. Any 288 words are read: what is not a
 // record is read as one that every call refuses by 15.
 ghost use mathlib.Core.Path.{_≡_};
 ghost use mathlib.Core.Bool.{true};
-ghost use mathlib.Core.List.{_++_};
-ghost use Prim.Native.Nat.{_≤_};
-ghost use lib.ListN.{length, drop};
+ghost use lib.ListN.{length};
 ghost use Rattle.adaptive_words.specs.Options.{optionsWords, isOptions, optionsOf};
 ghost use Rattle.adaptive_words.specs.Window.{windowWords, isWindow, windowOf, stampsWords, stampsOf, scoresWords, scoresOf};
 ghost use Rattle.adaptive_words.specs.Record.{adaptiveWords, foreign, adaptiveOf};
@@ -172,7 +170,7 @@ fn scores_of(w: &[u64]) -> [f64; 129]
     scores
 }
 
-// What is read where the words are no record: all weights are zero, so every call refuses it by 15.
+// What is read where the words are not a record: all weights are zero, so every call refuses it by 15.
 fn foreign() -> Detector
     ensures { λ r. ⌜ r ≡ foreign ⌝ }
 {
@@ -193,11 +191,9 @@ fn foreign() -> Detector
 
 // The record that the words hold.
 pub fn read(w: &[u64]) -> Detector
+    requires { ⌜ length (now w) ≡ 288 ⌝ }
     ensures { λ r. ⌜ r ≡ adaptiveOf (now (w .entry)) ⌝ }
 {
-    if w.len() < 288 {
-        return foreign();
-    }
     let a = &w[0..12];
     let b = &w[12..22];
     let c = &w[22..30];
@@ -216,10 +212,10 @@ pub fn read(w: &[u64]) -> Detector
     foreign()
 }
 
-// The record at the start of the words, from which it reads back; the words after it stay.
+// The record, from which it reads back.
 pub fn write(out: &mut [u64], d: Detector)
-    requires { ⌜ 288 ≤ length (now out) ⌝ }
-    ensures { λ _. ⌜ now (out .exit) ≡ adaptiveWords d ++ drop 288 (now (out .entry)) ⌝ }
+    requires { ⌜ length (now out) ≡ 288 ⌝ }
+    ensures { λ _. ⌜ now (out .exit) ≡ adaptiveWords d ⌝ }
     ensures { λ _. ⌜ adaptiveOf (now (out .exit)) ≡ d ⌝ }
 {
     let o = d.options;

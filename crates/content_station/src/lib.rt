@@ -1,55 +1,26 @@
-// The content detector's calls on lent words. Its state is 27 words, as the crate `content_words` lays them out; what is no record is refused by 15.
+// The content detector's calls on lent words. Its state is 27 words, as the crate `content_words` lays them out, its answer eight; what is
+// not a record is refused by 15.
 ghost use mathlib.Core.Path.{_≡_};
-ghost use mathlib.Core.Bool.{_||_};
-ghost use mathlib.Core.List.{_++_};
-ghost use Prim.Native.Nat.{_≤_};
-ghost use lib.Dec.{ltb};
-ghost use lib.ListN.{length, drop};
-ghost use Rattle.stream.specs.Stream.{memoryRefusal};
 ghost use Rattle.score.specs.Scores.{components as components·of};
 ghost use Rattle.words.specs.Choices.{scoreTag, componentsTag, componentsShown};
 ghost use Rattle.content.specs.Options.{options, defaults};
-ghost use Rattle.content.specs.State.{settled, clearedAnswer};
-ghost use Rattle.content_calls.specs.Call.{luma, bgr, hsv, memory, callRefusal, called};
+ghost use Rattle.content.specs.State.{settled};
+ghost use Rattle.content_calls.specs.Call.{luma, bgr, hsv, clear, memory};
 ghost use Rattle.content_words.specs.Record.{contentWords, contentOf};
-ghost use Rattle.station_answer.specs.Answer.{stamp, answerWords, scoreShown, componentAt};
+ghost use Rattle.station_answer.specs.Answer.{stamp, answerWords, ReadAs, scoreShown, componentAt};
 ghost use Rattle.station_answer.specs.Settings.{modeSet, kernelSet, flagSet};
-ghost use Rattle.content_station.specs.Told.{Told, Cleared, settledBy, New};
+ghost use Rattle.station_answer.specs.Contracts.{FrameContract, ClearContract, SettingsContract};
+ghost use Rattle.content_station.specs.Station.{contentLayout, contentCall, startedBy, settledBy};
 use content::Answer;
-use content::Detector;
 use content::Options;
 use content::Settled;
 use score::Components;
 use timestamp::Timestamp;
 
-// The number of a frame call's refusal, or 0, by that of the frame.
-fn call_number(
-    d: Detector,
-    frame: u32,
-    store: usize,
-    scratch: usize,
-    magnitudes: usize,
-    width: u32,
-    height: u32,
-) -> u32
-    requires { ⌜ (frame ≡ 0 → (width ≤ 4096) × (height ≤ 4096)) ⌝ }
-    ensures { λ r. ⌜ r ≡ callRefusal d frame (memoryRefusal store scratch magnitudes width height) ⌝ }
-{
-    if content::is_bad(d) {
-        return 15;
-    }
-    if 0 < frame {
-        return frame;
-    }
-    stream::memory_refusal(store, scratch, magnitudes, width, height)
-}
-
 // Writes what an accepted frame call brings: the new state and the answer.
-fn write_done(state: &mut [u64], answer: &mut [u64], a: Answer)
-    requires { ⌜ (27 ≤ length (now state)) × (8 ≤ length (now answer)) ⌝ }
-    ensures { λ _. ⌜ now (state .exit) ≡ contentWords (a .detector) ++ drop 27 (now (state .entry)) ⌝ }
-    ensures { λ _. ⌜ contentOf (now (state .exit)) ≡ a .detector ⌝ }
-    ensures { λ _. ⌜ now (answer .exit) ≡ answerWords (a .cut) (a .score) (a .components) ++ drop 8 (now (answer .entry)) ⌝ }
+fn write_done(state: &mut [u64; 27], answer: &mut [u64; 8], a: Answer)
+    ensures { λ _. ⌜ (now (state .exit) ≡ contentWords (a .detector)) × (contentOf (now (state .exit)) ≡ a .detector) ⌝ }
+    ensures { λ _. ⌜ (now (answer .exit) ≡ answerWords (a .cut) (a .score) (a .components)) × ReadAs (a .cut) (a .score) (a .components) (now (answer .exit)) ⌝ }
 {
     let d = a.detector;
     let cut = a.cut;
@@ -61,8 +32,8 @@ fn write_done(state: &mut [u64], answer: &mut [u64], a: Answer)
 
 // A luma frame.
 pub fn process_luma(
-    state: &mut [u64],
-    answer: &mut [u64],
+    state: &mut [u64; 27],
+    answer: &mut [u64; 8],
     plane: &[u8],
     width: u32,
     height: u32,
@@ -72,22 +43,9 @@ pub fn process_luma(
     scratch: &mut [u8],
     magnitudes: &mut [i32],
 ) -> u32
-    ensures { λ r. ⌜ Told (called (contentOf (now (state .entry))) (luma (now (plane .entry)) width height stride (stamp ts) (memory (now (store .entry)) (now (scratch .entry)) (now (magnitudes .entry))))) r (now (state .entry)) (now (state .exit)) (now (answer .entry)) (now (answer .exit)) (memory (now (store .entry)) (now (scratch .entry)) (now (magnitudes .entry))) (memory (now (store .exit)) (now (scratch .exit)) (now (magnitudes .exit))) ⌝ }
+    ensures { λ r. ⌜ FrameContract contentLayout (contentCall (contentOf (now (state .entry))) (luma (now (plane .entry)) width height stride (stamp ts) (memory (now (store .entry)) (now (scratch .entry)) (now (magnitudes .entry))))) r (now (state .entry)) (now (state .exit)) (now (answer .entry)) (now (answer .exit)) (memory (now (store .entry)) (now (scratch .entry)) (now (magnitudes .entry))) (memory (now (store .exit)) (now (scratch .exit)) (now (magnitudes .exit))) ⌝ }
 {
     let d = content_words::read(state);
-    if answer.len() < 8 {
-        let frame = frame::luma_refusal(plane.len(), width, height, stride);
-        let number = call_number(
-            d,
-            frame,
-            store.len(),
-            scratch.len(),
-            magnitudes.len(),
-            width,
-            height,
-        );
-        return station_answer::short_answer(number);
-    }
     let a = content_frames::process_luma(
         d,
         plane,
@@ -109,8 +67,8 @@ pub fn process_luma(
 
 // A BGR frame.
 pub fn process_bgr(
-    state: &mut [u64],
-    answer: &mut [u64],
+    state: &mut [u64; 27],
+    answer: &mut [u64; 8],
     pixels: &[u8],
     width: u32,
     height: u32,
@@ -120,22 +78,9 @@ pub fn process_bgr(
     scratch: &mut [u8],
     magnitudes: &mut [i32],
 ) -> u32
-    ensures { λ r. ⌜ Told (called (contentOf (now (state .entry))) (bgr (now (pixels .entry)) width height stride (stamp ts) (memory (now (store .entry)) (now (scratch .entry)) (now (magnitudes .entry))))) r (now (state .entry)) (now (state .exit)) (now (answer .entry)) (now (answer .exit)) (memory (now (store .entry)) (now (scratch .entry)) (now (magnitudes .entry))) (memory (now (store .exit)) (now (scratch .exit)) (now (magnitudes .exit))) ⌝ }
+    ensures { λ r. ⌜ FrameContract contentLayout (contentCall (contentOf (now (state .entry))) (bgr (now (pixels .entry)) width height stride (stamp ts) (memory (now (store .entry)) (now (scratch .entry)) (now (magnitudes .entry))))) r (now (state .entry)) (now (state .exit)) (now (answer .entry)) (now (answer .exit)) (memory (now (store .entry)) (now (scratch .entry)) (now (magnitudes .entry))) (memory (now (store .exit)) (now (scratch .exit)) (now (magnitudes .exit))) ⌝ }
 {
     let d = content_words::read(state);
-    if answer.len() < 8 {
-        let frame = frame::bgr_refusal(pixels.len(), width, height, stride);
-        let number = call_number(
-            d,
-            frame,
-            store.len(),
-            scratch.len(),
-            magnitudes.len(),
-            width,
-            height,
-        );
-        return station_answer::short_answer(number);
-    }
     let a = content_frames::process_bgr(
         d,
         pixels,
@@ -157,8 +102,8 @@ pub fn process_bgr(
 
 // An HSV frame.
 pub fn process_hsv(
-    state: &mut [u64],
-    answer: &mut [u64],
+    state: &mut [u64; 27],
+    answer: &mut [u64; 8],
     hue: &[u8],
     saturation: &[u8],
     value: &[u8],
@@ -170,29 +115,9 @@ pub fn process_hsv(
     scratch: &mut [u8],
     magnitudes: &mut [i32],
 ) -> u32
-    ensures { λ r. ⌜ Told (called (contentOf (now (state .entry))) (hsv (now (hue .entry)) (now (saturation .entry)) (now (value .entry)) width height stride (stamp ts) (memory (now (store .entry)) (now (scratch .entry)) (now (magnitudes .entry))))) r (now (state .entry)) (now (state .exit)) (now (answer .entry)) (now (answer .exit)) (memory (now (store .entry)) (now (scratch .entry)) (now (magnitudes .entry))) (memory (now (store .exit)) (now (scratch .exit)) (now (magnitudes .exit))) ⌝ }
+    ensures { λ r. ⌜ FrameContract contentLayout (contentCall (contentOf (now (state .entry))) (hsv (now (hue .entry)) (now (saturation .entry)) (now (value .entry)) width height stride (stamp ts) (memory (now (store .entry)) (now (scratch .entry)) (now (magnitudes .entry))))) r (now (state .entry)) (now (state .exit)) (now (answer .entry)) (now (answer .exit)) (memory (now (store .entry)) (now (scratch .entry)) (now (magnitudes .entry))) (memory (now (store .exit)) (now (scratch .exit)) (now (magnitudes .exit))) ⌝ }
 {
     let d = content_words::read(state);
-    if answer.len() < 8 {
-        let frame = frame::hsv_refusal(
-            hue.len(),
-            saturation.len(),
-            value.len(),
-            width,
-            height,
-            stride,
-        );
-        let number = call_number(
-            d,
-            frame,
-            store.len(),
-            scratch.len(),
-            magnitudes.len(),
-            width,
-            height,
-        );
-        return station_answer::short_answer(number);
-    }
     let a = content_frames::process_hsv(
         d,
         hue,
@@ -215,8 +140,8 @@ pub fn process_hsv(
 }
 
 // Forgets the stream: settings and size stay, all else is as at the start.
-pub fn clear(state: &mut [u64]) -> u32
-    ensures { λ r. ⌜ Cleared (clearedAnswer (contentOf (now (state .entry)))) r (now (state .entry)) (now (state .exit)) ⌝ }
+pub fn clear(state: &mut [u64; 27]) -> u32
+    ensures { λ r. ⌜ ClearContract contentLayout (contentCall (contentOf (now (state .entry))) clear) r (now (state .entry)) (now (state .exit)) ⌝ }
 {
     let d = content_words::read(state);
     let a = content::clear(d);
@@ -229,82 +154,69 @@ pub fn clear(state: &mut [u64]) -> u32
     0
 }
 
-// Writes what a settings call returns, and gives its number; 15 and nothing where the state is too short.
-fn write_settled(state: &mut [u64], x: Settled) -> u32
-    ensures { λ r. ⌜ New x (ltb (length (now (state .entry))) 27) r (now (state .entry)) (now (state .exit)) ⌝ }
+// Writes what a settings call returns, and gives its number.
+fn write_settled(state: &mut [u64; 27], x: Settled) -> u32
+    ensures { λ r. ⌜ SettingsContract contentLayout (startedBy x) r (now (state .exit)) ⌝ }
 {
-    if state.len() < 27 {
-        return 15;
-    }
     let d = x.detector;
     content_words::write(state, d);
     x.number
 }
 
 // A fresh state with the default settings.
-pub fn new_default(state: &mut [u64]) -> u32
-    ensures { λ r. ⌜ New (settled defaults) (ltb (length (now (state .entry))) 27) r (now (state .entry)) (now (state .exit)) ⌝ }
+pub fn new_default(state: &mut [u64; 27]) -> u32
+    ensures { λ r. ⌜ SettingsContract contentLayout (startedBy (settled defaults)) r (now (state .exit)) ⌝ }
 {
     write_settled(state, content::try_new(Options::new()))
 }
 
-// Settings by numbers.
+// Settings by numbers. A mode that is neither 0 nor 1 stands here for Merge, and is refused by `settled_by`.
 fn options_by(
     threshold: f64,
     min_duration: u64,
     weights: Components,
     filter_mode: u32,
+    has_kernel: u32,
     kernel_size: u32,
     initial_cut: u32,
 ) -> Options
-    ensures { λ r. ⌜ r ≡ options threshold «min_duration» weights (modeSet «filter_mode») (kernelSet «kernel_size») (flagSet «initial_cut») ⌝ }
+    ensures { λ r. ⌜ r ≡ options threshold «min_duration» weights (modeSet «filter_mode») (kernelSet «has_kernel» «kernel_size») (flagSet «initial_cut») ⌝ }
 {
     let mode = content_words::mode_of(filter_mode as u64);
-    let kernel = station_answer::kernel_set(kernel_size);
+    let kernel = station_answer::kernel_set(has_kernel, kernel_size);
     Options {
         threshold: threshold,
         min_duration: min_duration,
         weights: weights,
         filter_mode: mode,
         kernel_size: kernel,
-        initial_cut: initial_cut == 1,
+        initial_cut: station_answer::flag_set(initial_cut),
     }
 }
 
-// What settings by numbers return: filter_mode is 0 for Merge and 1 for Suppress, initial_cut 0 or 1, and other numbers are refused by 15.
-fn settled_by(
-    threshold: f64,
-    min_duration: u64,
-    weights: Components,
-    filter_mode: u32,
-    kernel_size: u32,
-    initial_cut: u32,
-) -> Settled
-    ensures { λ r. ⌜ r ≡ settledBy (ltb 1 «filter_mode» || ltb 1 «initial_cut») (options threshold «min_duration» weights (modeSet «filter_mode») (kernelSet «kernel_size») (flagSet «initial_cut»)) ⌝ }
+// What settings return whose mode is given by this number: 6 to 9, then 15 for a number that names no mode.
+fn settled_by(filter_mode: u32, o: Options) -> Settled
+    ensures { λ r. ⌜ r ≡ settledBy «filter_mode» o ⌝ }
 {
-    if (1 < filter_mode) | (1 < initial_cut) {
-        let x = content::try_new(Options::new());
-        let d = x.detector;
+    let x = content::try_new(o);
+    if 0 < x.number {
+        return x;
+    }
+    if 1 < filter_mode {
+        let defaults = content::try_new(Options::new());
+        let d = defaults.detector;
         return Settled {
             number: 15,
             detector: d,
         };
     }
-    content::try_new(options_by(
-        threshold,
-        min_duration,
-        weights,
-        filter_mode,
-        kernel_size,
-        initial_cut,
-    ))
+    x
 }
 
-// A fresh state with these settings, or with the defaults where they are refused. filter_mode is 0 for Merge and 1 for Suppress,
-// initial_cut 0 or 1, and other numbers are refused by 15. kernel_size 0 is not set. A state too short is refused by 15 too, and nothing
-// is written.
+// A fresh state with these settings, or with the defaults where they are refused. filter_mode is 0 for Merge and 1 for Suppress; any other
+// number is refused by 15, after the other refusals. A flag is off for 0, and on for any other number.
 pub fn try_new(
-    state: &mut [u64],
+    state: &mut [u64; 27],
     threshold: f64,
     min_duration: u64,
     hue: f64,
@@ -312,46 +224,48 @@ pub fn try_new(
     luma: f64,
     edges: f64,
     filter_mode: u32,
+    has_kernel: u32,
     kernel_size: u32,
     initial_cut: u32,
 ) -> u32
-    ensures { λ r. ⌜ New (settledBy (ltb 1 «filter_mode» || ltb 1 «initial_cut») (options threshold «min_duration» (components·of hue saturation luma edges) (modeSet «filter_mode») (kernelSet «kernel_size») (flagSet «initial_cut»))) (ltb (length (now (state .entry))) 27) r (now (state .entry)) (now (state .exit)) ⌝ }
+    ensures { λ r. ⌜ SettingsContract contentLayout (startedBy (settledBy «filter_mode» (options threshold «min_duration» (components·of hue saturation luma edges) (modeSet «filter_mode») (kernelSet «has_kernel» «kernel_size») (flagSet «initial_cut»)))) r (now (state .exit)) ⌝ }
 {
     let weights = Components::new(hue, saturation, luma, edges);
-    let x = settled_by(
+    let o = options_by(
         threshold,
         min_duration,
         weights,
         filter_mode,
+        has_kernel,
         kernel_size,
         initial_cut,
     );
-    write_settled(state, x)
+    write_settled(state, settled_by(filter_mode, o))
 }
 
 // The readers refuse nothing and show the record as it is. Whether there is a last score: 1 or 0.
-pub fn has_score(state: &[u64]) -> u32
+pub fn has_score(state: &[u64; 27]) -> u32
     ensures { λ r. ⌜ r ≡ scoreTag (contentOf (now (state .entry)) .stream .«last_score») ⌝ }
 {
     station_answer::has_score(content::last_score(content_words::read(state)))
 }
 
 // The last score, or 0.0.
-pub fn last_score(state: &[u64]) -> f64
+pub fn last_score(state: &[u64; 27]) -> f64
     ensures { λ r. ⌜ r ≡ scoreShown (contentOf (now (state .entry)) .stream .«last_score») ⌝ }
 {
     station_answer::score_shown(content::last_score(content_words::read(state)))
 }
 
 // Whether there are last components: 1 or 0.
-pub fn has_components(state: &[u64]) -> u32
+pub fn has_components(state: &[u64; 27]) -> u32
     ensures { λ r. ⌜ r ≡ componentsTag (contentOf (now (state .entry)) .stream .«last_components») ⌝ }
 {
     station_answer::has_components(content::last_components(content_words::read(state)))
 }
 
 // One of the last components, or 0.0: 0 is hue, 1 saturation, 2 luma, 3 edges.
-pub fn last_component(state: &[u64], place: u32) -> f64
+pub fn last_component(state: &[u64; 27], place: u32) -> f64
     ensures { λ r. ⌜ r ≡ componentAt (componentsShown (contentOf (now (state .entry)) .stream .«last_components»)) place ⌝ }
 {
     station_answer::component_at(content::last_components(content_words::read(state)), place)

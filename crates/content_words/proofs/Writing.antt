@@ -1,12 +1,11 @@
 -- Three parts written one after the other are a record's words, and they are read as that record.
-use mathlib.Core.Path.{_≡_, refl, sym, ap, _∙_}
+use mathlib.Core.Path.{_≡_, refl, ap, _∙_}
 use mathlib.Core.Bool.{true}
-use mathlib.Core.List.{List, _++_, append-assoc}
-use Prim.Native.Nat.{ℕ, _+_}
+use mathlib.Core.List.{List, _++_, append-assoc, append-nil}
+use Prim.Native.Nat.{ℕ}
 use native.Mathlib.Omega.{arith}
-use borrow.Author.Tests.{le-leb}
 use borrow.Rule.Slice.PartMut.{putMid, postOf}
-use lib.ListN.{length, take, drop, length-append}
+use lib.ListN.{length, take, drop, length-append, drop-of-length-le}
 use lib.Seq.{drop-drop}
 use Rattle.laws.proofs.Joined.{first-part, skip-part, next-put}
 use Rattle.filter.specs.declared.Filter.{Filter}
@@ -64,12 +63,9 @@ module _ (d : Detector) (a b c : List ℕ)
     third : take 6 (drop 21 whole) ≡ c
     third = skip-part a (b ++ (c ++ rest)) 11 10 6 of-a ∙ skip-part b (c ++ rest) 10 0 6 of-b ∙ first-part c rest 6 of-c
 
-    long : length whole ≡ 27 + length rest
-    long = simp length-append (omega (arith, of-a, of-b, of-c))
-
     read-back : contentOf whole ≡ d
     unfolding contentOf isContent
-    read-back = rw (first, second, third, le-leb 27 (length whole) (omega (arith, long)), o .1 .0, s .1 .0, f .1 .0, o .1 .1, s .1 .1, f .1 .1)
+    read-back = rw (first, second, third, o .1 .0, s .1 .0, f .1 .0, o .1 .1, s .1 .1, f .1 .1)
 
   -- the parts in their places
   module _ (out p q r : List ℕ) (e₁ : p ≡ a) (e₂ : q ≡ b) (e₃ : r ≡ c) where
@@ -81,8 +77,10 @@ module _ (d : Detector) (a b c : List ℕ)
         rw (e₁, e₂, e₃, next-put a (drop 11 out) 11 10 b of-a, ← append-assoc a b (drop 10 (drop 11 out)), next-put (a ++ b) (drop 10 (drop 11 out)) 21 6 c of-ab)
         (rw (drop-drop 10 11 out, drop-drop 6 21 out) (append-assoc a b (c ++ drop 27 out)))
 
-    pub written : (after ≡ contentWords d ++ drop 27 out) × (contentOf after ≡ d)
-    written = (
-      placed ∙ sym (ap (λ (l : List ℕ). a ++ l) (append-assoc b c (drop 27 out))) ∙ sym (append-assoc a (b ++ c) (drop 27 out)) ∙ ap (λ (l : List ℕ). l ++ drop 27 out) joined,
-      ap contentOf placed ∙ read-back (drop 27 out),
-    )
+    pub written : length out ≡ 27 → (after ≡ contentWords d) × (contentOf after ≡ d)
+    written h =
+        let whole : after ≡ a ++ (b ++ c) =
+        placed
+        ∙ ap (λ (l : List ℕ). a ++ (b ++ (c ++ l))) (drop-of-length-le out {i = 27} (omega (arith, h)))
+        ∙ ap (λ (l : List ℕ). a ++ (b ++ l)) (append-nil c) in
+        (whole ∙ joined, ap contentOf placed ∙ read-back (drop 27 out))

@@ -2,8 +2,7 @@
 use mathlib.Core.Bool.{Bool, cond, _&&_}
 use mathlib.Core.List.{List, _++_}
 use Prim.Native.Nat.{ℕ}
-use lib.Dec.{leb}
-use lib.ListN.{length, take, drop}
+use lib.ListN.{take, drop}
 use Rattle.content.specs.declared.Detector.{Detector}
 use Rattle.content.specs.Options.{defaults, options}
 use Rattle.content.specs.State.{fresh, zeroComponents}
@@ -14,11 +13,11 @@ use Rattle.content_words.specs.Filter.{filterWords, isFilter, filterOf}
 unfoldable pub contentWords : Detector → List ℕ
 contentWords d = optionsWords (d .options) ++ (streamWords (d .stream) ++ filterWords (d .filter))
 
--- there are 27 words, the version is this one, tags are 0 or 1, and fields of 32 bits have 32 bits. Later words are not looked at.
+-- the version is this one, tags are 0 or 1, and fields of 32 bits have 32 bits
 unfoldable pub isContent : List ℕ → Bool
-isContent w = leb 27 (length w) && (isOptions (take 11 w) && isStream (take 10 (drop 11 w)) && isFilter (take 6 (drop 21 w)))
+isContent w = isOptions (take 11 w) && isStream (take 10 (drop 11 w)) && isFilter (take 6 (drop 21 w))
 
--- what is read where the words are no record: the weights are zero, so that every call refuses it by 15
+-- what is read where the words are not a record: the weights are zero, so that every call refuses it by 15
 unfoldable pub foreign : Detector
 foreign = fresh (options (defaults .threshold) (defaults .«min_duration») zeroComponents (defaults .«filter_mode») (defaults .«kernel_size») (defaults .«initial_cut»))
 

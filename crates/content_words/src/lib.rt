@@ -1,10 +1,8 @@
-// The content detector's record in 27 words: a version, then each field. Any words are read: what is no record is read as one that
+// The content detector's record in 27 words: a version, then each field. Any 27 words are read: what is not a record is read as one that
 // every call refuses by 15.
 ghost use mathlib.Core.Path.{_≡_};
-ghost use mathlib.Core.List.{_++_};
 ghost use mathlib.Core.Bool.{true};
-ghost use Prim.Native.Nat.{_≤_};
-ghost use lib.ListN.{length, drop};
+ghost use lib.ListN.{length};
 ghost use Rattle.content_words.specs.Options.{modeWord, modeOf, optionsWords, isOptions, optionsOf};
 ghost use Rattle.content_words.specs.Filter.{filterWords, isFilter, filterOf};
 ghost use Rattle.content_words.specs.Record.{contentWords, foreign, contentOf};
@@ -116,7 +114,7 @@ fn filter_of(w: &[u64]) -> Filter
     }
 }
 
-// What is read where the words are no record: all weights are zero, so every call refuses it by 15.
+// What is read where the words are not a record: all weights are zero, so every call refuses it by 15.
 fn foreign() -> Detector
     ensures { λ r. ⌜ r ≡ foreign ⌝ }
 {
@@ -137,11 +135,9 @@ fn foreign() -> Detector
 
 // The record that the words hold.
 pub fn read(w: &[u64]) -> Detector
+    requires { ⌜ length (now w) ≡ 27 ⌝ }
     ensures { λ r. ⌜ r ≡ contentOf (now (w .entry)) ⌝ }
 {
-    if w.len() < 27 {
-        return foreign();
-    }
     let a = &w[0..11];
     let b = &w[11..21];
     let c = &w[21..27];
@@ -158,10 +154,10 @@ pub fn read(w: &[u64]) -> Detector
     foreign()
 }
 
-// The record at the start of the words, from which it reads back; the words after it stay.
+// The record, from which it reads back.
 pub fn write(out: &mut [u64], d: Detector)
-    requires { ⌜ 27 ≤ length (now out) ⌝ }
-    ensures { λ _. ⌜ now (out .exit) ≡ contentWords d ++ drop 27 (now (out .entry)) ⌝ }
+    requires { ⌜ length (now out) ≡ 27 ⌝ }
+    ensures { λ _. ⌜ now (out .exit) ≡ contentWords d ⌝ }
     ensures { λ _. ⌜ contentOf (now (out .exit)) ≡ d ⌝ }
 {
     let o = d.options;

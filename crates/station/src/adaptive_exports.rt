@@ -1,24 +1,21 @@
 // The adaptive detector's calls, as the crate `adaptive_station` has them.
 ghost use mathlib.Core.Path.{_≡_};
-ghost use mathlib.Core.Bool.{_||_};
-ghost use lib.Dec.{ltb};
-ghost use lib.ListN.{length};
 ghost use Rattle.score.specs.Scores.{components as components·of};
 ghost use Rattle.words.specs.Choices.{scoreTag, componentsTag, componentsShown};
 ghost use Rattle.adaptive.specs.Options.{options, defaults};
-ghost use Rattle.adaptive.specs.State.{settled, clearedAnswer};
-ghost use Rattle.content_calls.specs.Call.{luma, bgr, hsv, memory};
-ghost use Rattle.adaptive_calls.specs.Call.{called};
+ghost use Rattle.adaptive.specs.State.{settled};
+ghost use Rattle.content_calls.specs.Call.{luma, bgr, hsv, clear, memory};
 ghost use Rattle.adaptive_words.specs.Record.{adaptiveOf};
 ghost use Rattle.station_answer.specs.Answer.{stamp, scoreShown, componentAt};
 ghost use Rattle.station_answer.specs.Settings.{kernelSet, flagSet};
-ghost use Rattle.adaptive_station.specs.Told.{Told, Cleared, settledBy, New};
+ghost use Rattle.station_answer.specs.Contracts.{FrameContract, ClearContract, SettingsContract};
+ghost use Rattle.adaptive_station.specs.Station.{adaptiveLayout, adaptiveCall, startedBy};
 
 // A luma frame.
 #[no_mangle]
 pub extern "C" fn mw_adaptive_luma(
-    state: &mut [u64],
-    answer: &mut [u64],
+    state: &mut [u64; 288],
+    answer: &mut [u64; 8],
     plane: &[u8],
     width: u32,
     height: u32,
@@ -28,7 +25,7 @@ pub extern "C" fn mw_adaptive_luma(
     scratch: &mut [u8],
     magnitudes: &mut [i32],
 ) -> u32
-    ensures { λ r. ⌜ Told (called (adaptiveOf (now (state .entry))) (luma (now (plane .entry)) width height stride (stamp ts) (memory (now (store .entry)) (now (scratch .entry)) (now (magnitudes .entry))))) r (now (state .entry)) (now (state .exit)) (now (answer .entry)) (now (answer .exit)) (memory (now (store .entry)) (now (scratch .entry)) (now (magnitudes .entry))) (memory (now (store .exit)) (now (scratch .exit)) (now (magnitudes .exit))) ⌝ }
+    ensures { λ r. ⌜ FrameContract adaptiveLayout (adaptiveCall (adaptiveOf (now (state .entry))) (luma (now (plane .entry)) width height stride (stamp ts) (memory (now (store .entry)) (now (scratch .entry)) (now (magnitudes .entry))))) r (now (state .entry)) (now (state .exit)) (now (answer .entry)) (now (answer .exit)) (memory (now (store .entry)) (now (scratch .entry)) (now (magnitudes .entry))) (memory (now (store .exit)) (now (scratch .exit)) (now (magnitudes .exit))) ⌝ }
 {
     adaptive_station::process_luma(
         state,
@@ -47,8 +44,8 @@ pub extern "C" fn mw_adaptive_luma(
 // A BGR frame.
 #[no_mangle]
 pub extern "C" fn mw_adaptive_bgr(
-    state: &mut [u64],
-    answer: &mut [u64],
+    state: &mut [u64; 288],
+    answer: &mut [u64; 8],
     pixels: &[u8],
     width: u32,
     height: u32,
@@ -58,7 +55,7 @@ pub extern "C" fn mw_adaptive_bgr(
     scratch: &mut [u8],
     magnitudes: &mut [i32],
 ) -> u32
-    ensures { λ r. ⌜ Told (called (adaptiveOf (now (state .entry))) (bgr (now (pixels .entry)) width height stride (stamp ts) (memory (now (store .entry)) (now (scratch .entry)) (now (magnitudes .entry))))) r (now (state .entry)) (now (state .exit)) (now (answer .entry)) (now (answer .exit)) (memory (now (store .entry)) (now (scratch .entry)) (now (magnitudes .entry))) (memory (now (store .exit)) (now (scratch .exit)) (now (magnitudes .exit))) ⌝ }
+    ensures { λ r. ⌜ FrameContract adaptiveLayout (adaptiveCall (adaptiveOf (now (state .entry))) (bgr (now (pixels .entry)) width height stride (stamp ts) (memory (now (store .entry)) (now (scratch .entry)) (now (magnitudes .entry))))) r (now (state .entry)) (now (state .exit)) (now (answer .entry)) (now (answer .exit)) (memory (now (store .entry)) (now (scratch .entry)) (now (magnitudes .entry))) (memory (now (store .exit)) (now (scratch .exit)) (now (magnitudes .exit))) ⌝ }
 {
     adaptive_station::process_bgr(
         state,
@@ -77,8 +74,8 @@ pub extern "C" fn mw_adaptive_bgr(
 // An HSV frame.
 #[no_mangle]
 pub extern "C" fn mw_adaptive_hsv(
-    state: &mut [u64],
-    answer: &mut [u64],
+    state: &mut [u64; 288],
+    answer: &mut [u64; 8],
     hue: &[u8],
     saturation: &[u8],
     value: &[u8],
@@ -90,7 +87,7 @@ pub extern "C" fn mw_adaptive_hsv(
     scratch: &mut [u8],
     magnitudes: &mut [i32],
 ) -> u32
-    ensures { λ r. ⌜ Told (called (adaptiveOf (now (state .entry))) (hsv (now (hue .entry)) (now (saturation .entry)) (now (value .entry)) width height stride (stamp ts) (memory (now (store .entry)) (now (scratch .entry)) (now (magnitudes .entry))))) r (now (state .entry)) (now (state .exit)) (now (answer .entry)) (now (answer .exit)) (memory (now (store .entry)) (now (scratch .entry)) (now (magnitudes .entry))) (memory (now (store .exit)) (now (scratch .exit)) (now (magnitudes .exit))) ⌝ }
+    ensures { λ r. ⌜ FrameContract adaptiveLayout (adaptiveCall (adaptiveOf (now (state .entry))) (hsv (now (hue .entry)) (now (saturation .entry)) (now (value .entry)) width height stride (stamp ts) (memory (now (store .entry)) (now (scratch .entry)) (now (magnitudes .entry))))) r (now (state .entry)) (now (state .exit)) (now (answer .entry)) (now (answer .exit)) (memory (now (store .entry)) (now (scratch .entry)) (now (magnitudes .entry))) (memory (now (store .exit)) (now (scratch .exit)) (now (magnitudes .exit))) ⌝ }
 {
     adaptive_station::process_hsv(
         state,
@@ -110,25 +107,24 @@ pub extern "C" fn mw_adaptive_hsv(
 
 // Forgets the stream: settings and size stay, all else is as at the start.
 #[no_mangle]
-pub extern "C" fn mw_adaptive_clear(state: &mut [u64]) -> u32
-    ensures { λ r. ⌜ Cleared (clearedAnswer (adaptiveOf (now (state .entry)))) r (now (state .entry)) (now (state .exit)) ⌝ }
+pub extern "C" fn mw_adaptive_clear(state: &mut [u64; 288]) -> u32
+    ensures { λ r. ⌜ ClearContract adaptiveLayout (adaptiveCall (adaptiveOf (now (state .entry))) clear) r (now (state .entry)) (now (state .exit)) ⌝ }
 {
     adaptive_station::clear(state)
 }
 
 // A fresh state with the default settings.
 #[no_mangle]
-pub extern "C" fn mw_adaptive_default(state: &mut [u64]) -> u32
-    ensures { λ r. ⌜ New (settled defaults) (ltb (length (now (state .entry))) 288) r (now (state .entry)) (now (state .exit)) ⌝ }
+pub extern "C" fn mw_adaptive_default(state: &mut [u64; 288]) -> u32
+    ensures { λ r. ⌜ SettingsContract adaptiveLayout (startedBy (settled defaults)) r (now (state .exit)) ⌝ }
 {
     adaptive_station::new_default(state)
 }
 
-// A fresh state with these settings, or with the defaults where they are refused. initial_cut is 0 or 1, and other numbers are refused
-// by 15. kernel_size 0 is not set. A state too short is refused by 15 too, and nothing is written.
+// A fresh state with these settings, or with the defaults where they are refused. A flag is off for 0, and on for any other number.
 #[no_mangle]
 pub extern "C" fn mw_adaptive_new(
-    state: &mut [u64],
+    state: &mut [u64; 288],
     threshold: f64,
     min_duration: u64,
     window_width: u32,
@@ -137,10 +133,11 @@ pub extern "C" fn mw_adaptive_new(
     saturation: f64,
     luma: f64,
     edges: f64,
+    has_kernel: u32,
     kernel_size: u32,
     initial_cut: u32,
 ) -> u32
-    ensures { λ r. ⌜ New (settledBy (ltb 1 «initial_cut») (options threshold «min_duration» «window_width» «min_content_val» (components·of hue saturation luma edges) (kernelSet «kernel_size») (flagSet «initial_cut»))) (ltb (length (now (state .entry))) 288) r (now (state .entry)) (now (state .exit)) ⌝ }
+    ensures { λ r. ⌜ SettingsContract adaptiveLayout (startedBy (settled (options threshold «min_duration» «window_width» «min_content_val» (components·of hue saturation luma edges) (kernelSet «has_kernel» «kernel_size») (flagSet «initial_cut»)))) r (now (state .exit)) ⌝ }
 {
     adaptive_station::try_new(
         state,
@@ -152,6 +149,7 @@ pub extern "C" fn mw_adaptive_new(
         saturation,
         luma,
         edges,
+        has_kernel,
         kernel_size,
         initial_cut,
     )
@@ -159,7 +157,7 @@ pub extern "C" fn mw_adaptive_new(
 
 // The readers refuse nothing and show the record as it is. Whether there is a last score: 1 or 0.
 #[no_mangle]
-pub extern "C" fn mw_adaptive_has_score(state: &[u64]) -> u32
+pub extern "C" fn mw_adaptive_has_score(state: &[u64; 288]) -> u32
     ensures { λ r. ⌜ r ≡ scoreTag (adaptiveOf (now (state .entry)) .stream .«last_score») ⌝ }
 {
     adaptive_station::has_score(state)
@@ -167,7 +165,7 @@ pub extern "C" fn mw_adaptive_has_score(state: &[u64]) -> u32
 
 // The last score, or 0.0.
 #[no_mangle]
-pub extern "C" fn mw_adaptive_score(state: &[u64]) -> f64
+pub extern "C" fn mw_adaptive_score(state: &[u64; 288]) -> f64
     ensures { λ r. ⌜ r ≡ scoreShown (adaptiveOf (now (state .entry)) .stream .«last_score») ⌝ }
 {
     adaptive_station::last_score(state)
@@ -175,7 +173,7 @@ pub extern "C" fn mw_adaptive_score(state: &[u64]) -> f64
 
 // Whether there is a last ratio: 1 or 0.
 #[no_mangle]
-pub extern "C" fn mw_adaptive_has_ratio(state: &[u64]) -> u32
+pub extern "C" fn mw_adaptive_has_ratio(state: &[u64; 288]) -> u32
     ensures { λ r. ⌜ r ≡ scoreTag (adaptiveOf (now (state .entry)) .window .«last_adaptive_ratio») ⌝ }
 {
     adaptive_station::has_ratio(state)
@@ -183,7 +181,7 @@ pub extern "C" fn mw_adaptive_has_ratio(state: &[u64]) -> u32
 
 // The last ratio, or 0.0.
 #[no_mangle]
-pub extern "C" fn mw_adaptive_ratio(state: &[u64]) -> f64
+pub extern "C" fn mw_adaptive_ratio(state: &[u64; 288]) -> f64
     ensures { λ r. ⌜ r ≡ scoreShown (adaptiveOf (now (state .entry)) .window .«last_adaptive_ratio») ⌝ }
 {
     adaptive_station::last_ratio(state)
@@ -191,7 +189,7 @@ pub extern "C" fn mw_adaptive_ratio(state: &[u64]) -> f64
 
 // Whether there is a last target score: 1 or 0.
 #[no_mangle]
-pub extern "C" fn mw_adaptive_has_target(state: &[u64]) -> u32
+pub extern "C" fn mw_adaptive_has_target(state: &[u64; 288]) -> u32
     ensures { λ r. ⌜ r ≡ scoreTag (adaptiveOf (now (state .entry)) .window .«last_target_score») ⌝ }
 {
     adaptive_station::has_target(state)
@@ -199,7 +197,7 @@ pub extern "C" fn mw_adaptive_has_target(state: &[u64]) -> u32
 
 // The last target score, or 0.0.
 #[no_mangle]
-pub extern "C" fn mw_adaptive_target(state: &[u64]) -> f64
+pub extern "C" fn mw_adaptive_target(state: &[u64; 288]) -> f64
     ensures { λ r. ⌜ r ≡ scoreShown (adaptiveOf (now (state .entry)) .window .«last_target_score») ⌝ }
 {
     adaptive_station::last_target(state)
@@ -207,7 +205,7 @@ pub extern "C" fn mw_adaptive_target(state: &[u64]) -> f64
 
 // Whether there are last components: 1 or 0.
 #[no_mangle]
-pub extern "C" fn mw_adaptive_has_components(state: &[u64]) -> u32
+pub extern "C" fn mw_adaptive_has_components(state: &[u64; 288]) -> u32
     ensures { λ r. ⌜ r ≡ componentsTag (adaptiveOf (now (state .entry)) .stream .«last_components») ⌝ }
 {
     adaptive_station::has_components(state)
@@ -215,7 +213,7 @@ pub extern "C" fn mw_adaptive_has_components(state: &[u64]) -> u32
 
 // One of the last components, or 0.0: 0 is hue, 1 saturation, 2 luma, 3 edges.
 #[no_mangle]
-pub extern "C" fn mw_adaptive_component(state: &[u64], place: u32) -> f64
+pub extern "C" fn mw_adaptive_component(state: &[u64; 288], place: u32) -> f64
     ensures { λ r. ⌜ r ≡ componentAt (componentsShown (adaptiveOf (now (state .entry)) .stream .«last_components»)) place ⌝ }
 {
     adaptive_station::last_component(state, place)

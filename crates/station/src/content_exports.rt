@@ -1,23 +1,21 @@
 // The content detector's calls, as the crate `content_station` has them.
 ghost use mathlib.Core.Path.{_≡_};
-ghost use mathlib.Core.Bool.{_||_};
-ghost use lib.Dec.{ltb};
-ghost use lib.ListN.{length};
 ghost use Rattle.score.specs.Scores.{components as components·of};
 ghost use Rattle.words.specs.Choices.{scoreTag, componentsTag, componentsShown};
 ghost use Rattle.content.specs.Options.{options, defaults};
-ghost use Rattle.content.specs.State.{settled, clearedAnswer};
-ghost use Rattle.content_calls.specs.Call.{luma, bgr, hsv, memory, called};
+ghost use Rattle.content.specs.State.{settled};
+ghost use Rattle.content_calls.specs.Call.{luma, bgr, hsv, clear, memory};
 ghost use Rattle.content_words.specs.Record.{contentOf};
 ghost use Rattle.station_answer.specs.Answer.{stamp, scoreShown, componentAt};
 ghost use Rattle.station_answer.specs.Settings.{modeSet, kernelSet, flagSet};
-ghost use Rattle.content_station.specs.Told.{Told, Cleared, settledBy, New};
+ghost use Rattle.station_answer.specs.Contracts.{FrameContract, ClearContract, SettingsContract};
+ghost use Rattle.content_station.specs.Station.{contentLayout, contentCall, startedBy, settledBy};
 
 // A luma frame.
 #[no_mangle]
 pub extern "C" fn mw_content_luma(
-    state: &mut [u64],
-    answer: &mut [u64],
+    state: &mut [u64; 27],
+    answer: &mut [u64; 8],
     plane: &[u8],
     width: u32,
     height: u32,
@@ -27,7 +25,7 @@ pub extern "C" fn mw_content_luma(
     scratch: &mut [u8],
     magnitudes: &mut [i32],
 ) -> u32
-    ensures { λ r. ⌜ Told (called (contentOf (now (state .entry))) (luma (now (plane .entry)) width height stride (stamp ts) (memory (now (store .entry)) (now (scratch .entry)) (now (magnitudes .entry))))) r (now (state .entry)) (now (state .exit)) (now (answer .entry)) (now (answer .exit)) (memory (now (store .entry)) (now (scratch .entry)) (now (magnitudes .entry))) (memory (now (store .exit)) (now (scratch .exit)) (now (magnitudes .exit))) ⌝ }
+    ensures { λ r. ⌜ FrameContract contentLayout (contentCall (contentOf (now (state .entry))) (luma (now (plane .entry)) width height stride (stamp ts) (memory (now (store .entry)) (now (scratch .entry)) (now (magnitudes .entry))))) r (now (state .entry)) (now (state .exit)) (now (answer .entry)) (now (answer .exit)) (memory (now (store .entry)) (now (scratch .entry)) (now (magnitudes .entry))) (memory (now (store .exit)) (now (scratch .exit)) (now (magnitudes .exit))) ⌝ }
 {
     content_station::process_luma(
         state,
@@ -46,8 +44,8 @@ pub extern "C" fn mw_content_luma(
 // A BGR frame.
 #[no_mangle]
 pub extern "C" fn mw_content_bgr(
-    state: &mut [u64],
-    answer: &mut [u64],
+    state: &mut [u64; 27],
+    answer: &mut [u64; 8],
     pixels: &[u8],
     width: u32,
     height: u32,
@@ -57,7 +55,7 @@ pub extern "C" fn mw_content_bgr(
     scratch: &mut [u8],
     magnitudes: &mut [i32],
 ) -> u32
-    ensures { λ r. ⌜ Told (called (contentOf (now (state .entry))) (bgr (now (pixels .entry)) width height stride (stamp ts) (memory (now (store .entry)) (now (scratch .entry)) (now (magnitudes .entry))))) r (now (state .entry)) (now (state .exit)) (now (answer .entry)) (now (answer .exit)) (memory (now (store .entry)) (now (scratch .entry)) (now (magnitudes .entry))) (memory (now (store .exit)) (now (scratch .exit)) (now (magnitudes .exit))) ⌝ }
+    ensures { λ r. ⌜ FrameContract contentLayout (contentCall (contentOf (now (state .entry))) (bgr (now (pixels .entry)) width height stride (stamp ts) (memory (now (store .entry)) (now (scratch .entry)) (now (magnitudes .entry))))) r (now (state .entry)) (now (state .exit)) (now (answer .entry)) (now (answer .exit)) (memory (now (store .entry)) (now (scratch .entry)) (now (magnitudes .entry))) (memory (now (store .exit)) (now (scratch .exit)) (now (magnitudes .exit))) ⌝ }
 {
     content_station::process_bgr(
         state,
@@ -76,8 +74,8 @@ pub extern "C" fn mw_content_bgr(
 // An HSV frame.
 #[no_mangle]
 pub extern "C" fn mw_content_hsv(
-    state: &mut [u64],
-    answer: &mut [u64],
+    state: &mut [u64; 27],
+    answer: &mut [u64; 8],
     hue: &[u8],
     saturation: &[u8],
     value: &[u8],
@@ -89,7 +87,7 @@ pub extern "C" fn mw_content_hsv(
     scratch: &mut [u8],
     magnitudes: &mut [i32],
 ) -> u32
-    ensures { λ r. ⌜ Told (called (contentOf (now (state .entry))) (hsv (now (hue .entry)) (now (saturation .entry)) (now (value .entry)) width height stride (stamp ts) (memory (now (store .entry)) (now (scratch .entry)) (now (magnitudes .entry))))) r (now (state .entry)) (now (state .exit)) (now (answer .entry)) (now (answer .exit)) (memory (now (store .entry)) (now (scratch .entry)) (now (magnitudes .entry))) (memory (now (store .exit)) (now (scratch .exit)) (now (magnitudes .exit))) ⌝ }
+    ensures { λ r. ⌜ FrameContract contentLayout (contentCall (contentOf (now (state .entry))) (hsv (now (hue .entry)) (now (saturation .entry)) (now (value .entry)) width height stride (stamp ts) (memory (now (store .entry)) (now (scratch .entry)) (now (magnitudes .entry))))) r (now (state .entry)) (now (state .exit)) (now (answer .entry)) (now (answer .exit)) (memory (now (store .entry)) (now (scratch .entry)) (now (magnitudes .entry))) (memory (now (store .exit)) (now (scratch .exit)) (now (magnitudes .exit))) ⌝ }
 {
     content_station::process_hsv(
         state,
@@ -109,26 +107,25 @@ pub extern "C" fn mw_content_hsv(
 
 // Forgets the stream: settings and size stay, all else is as at the start.
 #[no_mangle]
-pub extern "C" fn mw_content_clear(state: &mut [u64]) -> u32
-    ensures { λ r. ⌜ Cleared (clearedAnswer (contentOf (now (state .entry)))) r (now (state .entry)) (now (state .exit)) ⌝ }
+pub extern "C" fn mw_content_clear(state: &mut [u64; 27]) -> u32
+    ensures { λ r. ⌜ ClearContract contentLayout (contentCall (contentOf (now (state .entry))) clear) r (now (state .entry)) (now (state .exit)) ⌝ }
 {
     content_station::clear(state)
 }
 
 // A fresh state with the default settings.
 #[no_mangle]
-pub extern "C" fn mw_content_default(state: &mut [u64]) -> u32
-    ensures { λ r. ⌜ New (settled defaults) (ltb (length (now (state .entry))) 27) r (now (state .entry)) (now (state .exit)) ⌝ }
+pub extern "C" fn mw_content_default(state: &mut [u64; 27]) -> u32
+    ensures { λ r. ⌜ SettingsContract contentLayout (startedBy (settled defaults)) r (now (state .exit)) ⌝ }
 {
     content_station::new_default(state)
 }
 
-// A fresh state with these settings, or with the defaults where they are refused. filter_mode is 0 for Merge and 1 for Suppress,
-// initial_cut 0 or 1, and other numbers are refused by 15. kernel_size 0 is not set. A state too short is refused by 15 too, and nothing
-// is written.
+// A fresh state with these settings, or with the defaults where they are refused. filter_mode is 0 for Merge and 1 for Suppress; any other
+// number is refused by 15, after the other refusals. A flag is off for 0, and on for any other number.
 #[no_mangle]
 pub extern "C" fn mw_content_new(
-    state: &mut [u64],
+    state: &mut [u64; 27],
     threshold: f64,
     min_duration: u64,
     hue: f64,
@@ -136,10 +133,11 @@ pub extern "C" fn mw_content_new(
     luma: f64,
     edges: f64,
     filter_mode: u32,
+    has_kernel: u32,
     kernel_size: u32,
     initial_cut: u32,
 ) -> u32
-    ensures { λ r. ⌜ New (settledBy (ltb 1 «filter_mode» || ltb 1 «initial_cut») (options threshold «min_duration» (components·of hue saturation luma edges) (modeSet «filter_mode») (kernelSet «kernel_size») (flagSet «initial_cut»))) (ltb (length (now (state .entry))) 27) r (now (state .entry)) (now (state .exit)) ⌝ }
+    ensures { λ r. ⌜ SettingsContract contentLayout (startedBy (settledBy «filter_mode» (options threshold «min_duration» (components·of hue saturation luma edges) (modeSet «filter_mode») (kernelSet «has_kernel» «kernel_size») (flagSet «initial_cut»)))) r (now (state .exit)) ⌝ }
 {
     content_station::try_new(
         state,
@@ -150,6 +148,7 @@ pub extern "C" fn mw_content_new(
         luma,
         edges,
         filter_mode,
+        has_kernel,
         kernel_size,
         initial_cut,
     )
@@ -157,7 +156,7 @@ pub extern "C" fn mw_content_new(
 
 // The readers refuse nothing and show the record as it is. Whether there is a last score: 1 or 0.
 #[no_mangle]
-pub extern "C" fn mw_content_has_score(state: &[u64]) -> u32
+pub extern "C" fn mw_content_has_score(state: &[u64; 27]) -> u32
     ensures { λ r. ⌜ r ≡ scoreTag (contentOf (now (state .entry)) .stream .«last_score») ⌝ }
 {
     content_station::has_score(state)
@@ -165,7 +164,7 @@ pub extern "C" fn mw_content_has_score(state: &[u64]) -> u32
 
 // The last score, or 0.0.
 #[no_mangle]
-pub extern "C" fn mw_content_score(state: &[u64]) -> f64
+pub extern "C" fn mw_content_score(state: &[u64; 27]) -> f64
     ensures { λ r. ⌜ r ≡ scoreShown (contentOf (now (state .entry)) .stream .«last_score») ⌝ }
 {
     content_station::last_score(state)
@@ -173,7 +172,7 @@ pub extern "C" fn mw_content_score(state: &[u64]) -> f64
 
 // Whether there are last components: 1 or 0.
 #[no_mangle]
-pub extern "C" fn mw_content_has_components(state: &[u64]) -> u32
+pub extern "C" fn mw_content_has_components(state: &[u64; 27]) -> u32
     ensures { λ r. ⌜ r ≡ componentsTag (contentOf (now (state .entry)) .stream .«last_components») ⌝ }
 {
     content_station::has_components(state)
@@ -181,7 +180,7 @@ pub extern "C" fn mw_content_has_components(state: &[u64]) -> u32
 
 // One of the last components, or 0.0: 0 is hue, 1 saturation, 2 luma, 3 edges.
 #[no_mangle]
-pub extern "C" fn mw_content_component(state: &[u64], place: u32) -> f64
+pub extern "C" fn mw_content_component(state: &[u64; 27], place: u32) -> f64
     ensures { λ r. ⌜ r ≡ componentAt (componentsShown (contentOf (now (state .entry)) .stream .«last_components»)) place ⌝ }
 {
     content_station::last_component(state, place)

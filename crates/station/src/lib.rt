@@ -1,10 +1,20 @@
-// The library that a station links: all that it calls, on numbers and lent memory alone. A slice passes as a pointer and then a length.
-// Nothing is asked of a caller: memory that is too short, and a state that is no record, are answered by their numbers.
+// The library that a station links: all that it calls, on numbers and lent memory alone. A slice passes as a pointer and then a length, an
+// array of fixed size as a pointer. No value is asked for: memory that is too short, and a state that is not a record, are refused by their
+// numbers. Of the pointers the header asks what no proof here speaks of: each is not NULL, is aligned, points to as much memory as its type
+// or its length says, and nothing that is written overlaps anything else or is used by anybody else during the call.
 ghost use mathlib.Core.Path.{_≡_};
 ghost use Rattle.station_answer.specs.Sizes.{storeBytes, scratchBytes, magnitudesCount};
 
 pub mod adaptive_exports;
 pub mod content_exports;
+
+// The library's version: the major number times 65,536, the minor times 256, the patch.
+#[no_mangle]
+pub extern "C" fn mw_version() -> u32
+    ensures { λ r. ⌜ r ≡ 0x000200 ⌝ }
+{
+    0x000200
+}
 
 // How many words a content state has.
 #[no_mangle]

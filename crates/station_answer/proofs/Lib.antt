@@ -1,2 +1,4 @@
 pub mod Small
 pub mod Enough
+pub mod Made
+pub mod Contracts

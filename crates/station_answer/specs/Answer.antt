@@ -1,8 +1,9 @@
--- What a frame call answers in words, and what the readers show.
-use mathlib.Core.Bool.{cond, _||_}
+-- The answer of a frame call in words, what they are read as, and what the readers show.
+use mathlib.Core.Path.{_≡_}
+use mathlib.Core.Bool.{cond}
 use mathlib.Core.List.{List, [], _∷_}
 use Prim.Native.Nat.{ℕ}
-use lib.Dec.{eqb, ltb}
+use lib.Dec.{eqb}
 use lib.Ieee.{Float, binary64, toBits}
 use lib.IntN.{ℤ}
 use Rattle.laws.specs.Floats.{float}
@@ -11,7 +12,8 @@ use Rattle.timestamp.specs.declared.MaybeTimestamp.{MaybeTimestamp}
 use Rattle.score.specs.declared.Components.{Components}
 use Rattle.score.specs.declared.MaybeScore.{MaybeScore}
 use Rattle.score.specs.declared.MaybeScore.the-variants.{None, Some}
-use Rattle.words.specs.Choices.{stampTag, stampWord, scoreTag, scoreWord}
+use Rattle.words.specs.Choices.{stampTag, stampWord, stampOf, scoreTag, scoreWord, scoreOf, componentsOf}
+use Rattle.words.specs.Stream.{wordAt}
 
 abbrev pub stamp : ℤ → Timestamp
 stamp z = record { micros = z }
@@ -29,16 +31,23 @@ answerWords cut score c =
     toBits binary64 (c .«delta_edges») ∷
     []
 
--- An answer memory too short is refused by 13, as the scratch is, right after the scratch: a call that would be accepted, or refused by
--- 14, is refused by 13.
-unfoldable pub shortNumber : ℕ → ℕ
-shortNumber n = cond (eqb n 0 || eqb n 14) 13 n
+-- what the words of an answer are read as: the cut or none, the score or none, and the four components
+abbrev pub cutIn : List ℕ → MaybeTimestamp
+cutIn a = stampOf (wordAt a 0) (wordAt a 1)
 
--- the number of a call, by what it would be with an answer memory of 8 words, and the words that there are
-unfoldable pub numberWith : (number words : ℕ) → ℕ
-numberWith n words = cond (ltb words 8) (shortNumber n) n
+abbrev pub scoreIn : List ℕ → MaybeScore
+scoreIn a = scoreOf (wordAt a 2) (wordAt a 3)
 
--- the new where the number is 0, and else the old: "A refusal returns its number, the old state, no cut"
+abbrev pub componentsIn : List ℕ → Components
+componentsIn a = componentsOf (wordAt a 4) (wordAt a 5) (wordAt a 6) (wordAt a 7)
+
+-- words that read back as this cut, this score and these components
+pub record ReadAs (cut : MaybeTimestamp) (score : MaybeScore) (deltas : Components) (a : List ℕ) : Type 0 where
+  pub the-cut : cutIn a ≡ cut
+  pub the-score : scoreIn a ≡ score
+  pub the-components : componentsIn a ≡ deltas
+
+-- the new where the number is 0, and else the old: a refused call leaves everything as it was
 abbrev pub after : {A : Type 0} → ℕ → A → A → A
 after n new old = cond (eqb n 0) new old
 

@@ -1,3 +1,4 @@
 pub mod Sizes
 pub mod Answer
 pub mod Settings
+pub mod Contracts

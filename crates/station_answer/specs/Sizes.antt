@@ -1,5 +1,5 @@
--- The memory that a frame of a size needs. Document 01: "The store's first 4n bytes are the last frame's .. planes .. The scratch has
--- 7n + 2 × max(width, height) bytes, the magnitudes n signed 32-bit numbers." A size that every call refuses by 1 needs none.
+-- The memory that a frame of a size needs: four planes of store, seven planes and twice the longer side of scratch, one number of
+-- magnitudes for each pixel. A size that every call refuses by 1 needs none.
 use mathlib.Core.Bool.{cond}
 use Prim.Native.Nat.{ℕ, _+_, _*_, max}
 use Rattle.frame.specs.Checks.{tooLarge}

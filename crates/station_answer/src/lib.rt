@@ -1,13 +1,11 @@
 // What the calls of both detectors share: the memory that a frame needs, an answer in words, settings by numbers, and what the readers
 // show.
 ghost use mathlib.Core.Path.{_≡_};
-ghost use mathlib.Core.List.{_++_};
-ghost use Prim.Native.Nat.{_≤_, max};
-ghost use lib.ListN.{length, drop};
+ghost use Prim.Native.Nat.{max};
 ghost use Rattle.words.specs.Choices.{scoreTag, componentsTag, componentsShown};
 ghost use Rattle.station_answer.specs.Sizes.{storeBytes, scratchBytes, magnitudesCount};
-ghost use Rattle.station_answer.specs.Answer.{shortNumber, answerWords, scoreShown, componentAt};
-ghost use Rattle.station_answer.specs.Settings.{kernelSet};
+ghost use Rattle.station_answer.specs.Answer.{answerWords, ReadAs, scoreShown, componentAt};
+ghost use Rattle.station_answer.specs.Settings.{flagSet, kernelSet};
 use score::Components;
 use score::KernelSize;
 use score::MaybeComponents;
@@ -56,19 +54,9 @@ pub fn magnitudes_count(width: u32, height: u32) -> u64
     width as u64 * height as u64
 }
 
-// The number of a call whose answer memory is too short, by what its number would be: 13 stands before 14.
-pub fn short_answer(number: u32) -> u32
-    ensures { λ r. ⌜ r ≡ shortNumber number ⌝ }
-{
-    if (number == 0) | (number == 14) {
-        return 13;
-    }
-    number
-}
-
 // The eight words of an answer.
 fn answer_words(cut: MaybeTimestamp, score: MaybeScore, deltas: Components) -> [u64; 8]
-    ensures { λ r. ⌜ r ≡ answerWords cut score deltas ⌝ }
+    ensures { λ r. ⌜ (r ≡ answerWords cut score deltas) × ReadAs cut score deltas r ⌝ }
 {
     let w0 = words::stamp_tag(cut);
     let w1 = words::stamp_word(cut);
@@ -81,20 +69,26 @@ fn answer_words(cut: MaybeTimestamp, score: MaybeScore, deltas: Components) -> [
     [w0, w1, w2, w3, w4, w5, w6, w7]
 }
 
-// Writes an answer at the start of out; the words after it stay.
-pub fn write_answer(out: &mut [u64], cut: MaybeTimestamp, score: MaybeScore, deltas: Components)
-    requires { ⌜ 8 ≤ length (now out) ⌝ }
-    ensures { λ _. ⌜ now (out .exit) ≡ answerWords cut score deltas ++ drop 8 (now (out .entry)) ⌝ }
+// Writes an answer, which reads back.
+pub fn write_answer(out: &mut [u64; 8], cut: MaybeTimestamp, score: MaybeScore, deltas: Components)
+    ensures { λ _. ⌜ (now (out .exit) ≡ answerWords cut score deltas) × ReadAs cut score deltas (now (out .exit)) ⌝ }
 {
     let w = answer_words(cut, score, deltas);
-    words::copy(&mut out[0..8], &w);
+    words::copy(out, &w);
 }
 
-// A kernel's size by a number: 0 is not set.
-pub fn kernel_set(k: u32) -> KernelSize
-    ensures { λ r. ⌜ r ≡ kernelSet k ⌝ }
+// A flag by a number, as in C.
+pub fn flag_set(n: u32) -> bool
+    ensures { λ r. ⌜ r ≡ flagSet n ⌝ }
 {
-    if k == 0 {
+    n != 0
+}
+
+// A kernel's size by two numbers: whether it is set, and the size.
+pub fn kernel_set(has: u32, k: u32) -> KernelSize
+    ensures { λ r. ⌜ r ≡ kernelSet has k ⌝ }
+{
+    if has == 0 {
         return KernelSize::Auto;
     }
     KernelSize::Set(k)

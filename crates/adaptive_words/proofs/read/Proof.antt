@@ -1,15 +1,9 @@
 -- `adaptive_words::read` meets its contract.
-use Rattle.adaptive_words.proofs.Reading.{few, no-record, the-record}
+use Rattle.adaptive_words.proofs.Reading.{no-record, the-record}
 use mathlib.Core.Path.{_∙_}
 use borrow.Author.Needs.{needs}
 use Rattle.adaptive_words.proofs.read.Statement.{statement}
 use Rattle.adaptive_words.proofs.read.Tie as tie
-
-foreign-requires : tie.Need-foreign-requires
-foreign-requires c κs = search needs
-
-returns : tie.Need-returns
-returns c = c .foreign .ensures ∙ few _ (c .before .if1 .taken)
 
 sub-a : tie.Need-sub-a
 sub-a c = search needs
@@ -80,28 +74,26 @@ scores-of-requires c κs = search needs
 window-of-requires : tie.Need-window-of-requires
 window-of-requires c κs = search needs
 
+returns : tie.Need-returns
+returns c =
+    let t = c .before .before .before .before .before .before .before in
+    let tests = rw (t .before .before .before .is-options .ensures, t .before .before .is-stream .ensures, t .before .is-window .ensures) at (t .if1 .taken) in
+    rw (c .before .before .before .before .before .before .options-of .ensures, c .before .before .before .before .before .stream-of .ensures, c .window-of .ensures, c .before .before .before .stamps-of .ensures, c .before .scores-of .ensures)
+    (the-record _ tests)
+
+foreign-requires : tie.Need-foreign-requires
+foreign-requires c κs = search needs
+
 returns-2 : tie.Need-returns-2
 returns-2 c =
-    let t = c .before .before .before .before .before .before .before in
-    let tests = rw (t .before .before .before .is-options .ensures, t .before .before .is-stream .ensures, t .before .is-window .ensures) at (t .if2 .taken) in
-    rw (c .before .before .before .before .before .before .options-of .ensures, c .before .before .before .before .before .stream-of .ensures, c .window-of .ensures, c .before .before .before .stamps-of .ensures, c .before .scores-of .ensures)
-    (the-record _ (t .before .before .before .before .before .before .before .if1 .left) tests)
-
-foreign-requires-2 : tie.Need-foreign-requires-2
-foreign-requires-2 c κs = search needs
-
-returns-3 : tie.Need-returns-3
-returns-3 c =
     let t = c .before in
-    let tests = rw (t .before .before .before .is-options .ensures, t .before .before .is-stream .ensures, t .before .is-window .ensures) at (t .if2 .left) in
-    c .foreign2 .ensures ∙ no-record _ (t .before .before .before .before .before .before .before .if1 .left) tests
+    let tests = rw (t .before .before .before .is-options .ensures, t .before .before .is-stream .ensures, t .before .is-window .ensures) at (t .if1 .left) in
+    c .foreign .ensures ∙ no-record _ tests
 
 pub read-spec : {M : Type 1} → statement M
 read-spec =
     tie.close
     (tie.spec
-    foreign-requires
-    returns
     sub-a
     part-a-start
     part-a-end
@@ -125,6 +117,6 @@ read-spec =
     part-scores-of-end
     scores-of-requires
     window-of-requires
-    returns-2
-    foreign-requires-2
-    returns-3)
+    returns
+    foreign-requires
+    returns-2)

@@ -9,8 +9,11 @@ mode-of-requires c κs = search needs
 kernel-set-requires : tie.Need-kernel-set-requires
 kernel-set-requires c κs = search needs
 
+flag-set-requires : tie.Need-flag-set-requires
+flag-set-requires c κs = search needs
+
 returns : tie.Need-returns
-returns c = rw (c .kernel-set .ensures, c .before .mode-of .ensures)
+returns c = rw (c .flag-set .ensures, c .before .kernel-set .ensures, c .before .before .mode-of .ensures)
 
 pub options-by-spec : {M : Type 1} → statement M
-options-by-spec = tie.close (tie.spec mode-of-requires kernel-set-requires returns)
+options-by-spec = tie.close (tie.spec mode-of-requires kernel-set-requires flag-set-requires returns)

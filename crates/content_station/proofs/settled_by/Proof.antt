@@ -1,34 +1,32 @@
 -- `content_station::settled_by` meets its contract.
-use Rattle.content_station.proofs.Laws.{by-none, by-some}
+use Rattle.content_station.proofs.Laws.{by-refused, by-no-mode, by-mode}
+use native.Mathlib.Omega.{arith}
 use borrow.Author.Needs.{needs}
 use Rattle.content_station.proofs.settled_by.Statement.{statement}
 use Rattle.content_station.proofs.settled_by.Tie as tie
-
-new-requires : tie.Need-new-requires
-new-requires c κs = search needs
 
 try-new-requires : tie.Need-try-new-requires
 try-new-requires c κs = search needs
 
 returns : tie.Need-returns
-returns c = by-none _ _ _ (c .before .before .before .if1 .taken) (rw (c .before .before .new .ensures) at (c .before .try-new .ensures))
+returns c = by-refused _ _ _ (c .before .before .try-new .ensures) (c .if1 .taken)
 
-options-by-requires : tie.Need-options-by-requires
-options-by-requires c κs = search needs
+new-requires : tie.Need-new-requires
+new-requires c κs = search needs
 
 try-new-requires-2 : tie.Need-try-new-requires-2
 try-new-requires-2 c κs = search needs
 
 returns-2 : tie.Need-returns-2
-returns-2 c = by-some _ _ _ (c .before .before .if1 .left) (rw (c .before .options-by .ensures) at (c .try-new2 .ensures))
+returns-2 c =
+    let t = c .before .before .before in
+    by-no-mode _ _ _ (t .before .before .before .try-new .ensures) (omega arith) (t .if2 .taken) _
+    (rw (c .before .before .new .ensures) at (c .before .try-new2 .ensures))
+
+returns-3 : tie.Need-returns-3
+returns-3 c = by-mode _ _ _ (c .before .before .before .try-new .ensures) (omega arith) (c .if2 .left)
 
 pub settled-by-spec : {M : Type 1} → statement M
 settled-by-spec =
     tie.close
-    (tie.spec
-    new-requires
-    try-new-requires
-    returns
-    options-by-requires
-    try-new-requires-2
-    returns-2)
+    (tie.spec try-new-requires returns new-requires try-new-requires-2 returns-2 returns-3)

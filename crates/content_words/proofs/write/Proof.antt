@@ -66,7 +66,7 @@ returns c =
     let p = c .before .before .before .before .before .before .before .before .before .before .before .before in
     let w = p .before .before .before in
     written _ _ _ _ (w .before .before .options-words .ensures) (w .before .stream-words .ensures) (w .filter-words .ensures) (c .before .before .before .before .before .before .before .before .before .before .before .before .before .before .before .before .before .before .before .before .before .before .args .out .now) _ _ _
-    (p .copy .ensures) (c .before .before .before .before .before .before .before .copy2 .ensures) (c .before .before .copy3 .ensures)
+    (p .copy .ensures) (c .before .before .before .before .before .before .before .copy2 .ensures) (c .before .before .copy3 .ensures) (c .before .before .before .before .before .before .before .before .before .before .before .before .before .before .before .before .before .before .before .before .before .before .pre)
 
 pub write-spec : {M : Type 1} → statement M
 write-spec =

@@ -1,5 +1,5 @@
 -- `station_answer::answer_words` meets its contract.
-use Rattle.station_answer.specs.Answer.{answerWords}
+use Rattle.station_answer.proofs.Made.{answer-made}
 use borrow.Author.Needs.{needs}
 use Rattle.station_answer.proofs.answer_words.Statement.{statement}
 use Rattle.station_answer.proofs.answer_words.Tie as tie
@@ -29,18 +29,16 @@ float-word-requires-4 : tie.Need-float-word-requires-4
 float-word-requires-4 c κs = search needs
 
 returns : tie.Need-returns
-unfolding answerWords
 returns c =
-    rw (
-      c .before .before .before .before .before .before .before .stamp-tag .ensures,
-      c .before .before .before .before .before .before .stamp-word .ensures .0,
-      c .before .before .before .before .before .score-tag .ensures,
-      c .before .before .before .before .score-word .ensures .0,
-      c .before .before .before .float-word .ensures .0,
-      c .before .before .float-word2 .ensures .0,
-      c .before .float-word3 .ensures .0,
-      c .float-word4 .ensures .0,
-    )
+    answer-made _ _ _ _ _ _ _ _ _ _ _
+    (c .before .before .before .before .before .before .before .stamp-tag .ensures)
+    (c .before .before .before .before .before .before .stamp-word .ensures)
+    (c .before .before .before .before .before .score-tag .ensures)
+    (c .before .before .before .before .score-word .ensures)
+    (c .before .before .before .float-word .ensures)
+    (c .before .before .float-word2 .ensures)
+    (c .before .float-word3 .ensures)
+    (c .float-word4 .ensures)
 
 pub answer-words-spec : {M : Type 1} → statement M
 answer-words-spec =

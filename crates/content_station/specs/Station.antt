@@ -1,0 +1,44 @@
+-- The content detector at the station's border: its record in words, what its calls bring, and settings by numbers.
+use mathlib.Core.Bool.{cond, not}
+use mathlib.Core.List.{[], _∷_}
+use Prim.Native.Nat.{ℕ}
+use lib.Dec.{eqb}
+use Rattle.frame.specs.Refusal.{firstThat}
+use Rattle.content.specs.declared.Detector.{Detector}
+use Rattle.content.specs.declared.Options.{Options}
+use Rattle.content.specs.declared.Settled.{Settled}
+use Rattle.content.specs.Options.{defaults, optionsRefusal}
+use Rattle.content.specs.State.{fresh}
+use Rattle.content_calls.specs.Call.{Call, Outcome, called}
+use Rattle.content_words.specs.Record.{contentWords, contentOf}
+use Rattle.station_answer.specs.Settings.{noMode}
+use Rattle.station_answer.specs.Contracts.{Layout, Brought, Started}
+
+abbrev pub contentLayout : Layout Detector
+contentLayout = record { wordsOf = contentWords; heldBy = contentOf }
+
+abbrev pub broughtBy : Outcome → Brought Detector
+broughtBy o =
+    record {
+      number = o .answer .number;
+      detector = o .answer .detector;
+      cut = o .answer .cut;
+      score = o .answer .score;
+      components = o .answer .components;
+      store = o .store;
+    }
+
+-- what a call of the content detector brings
+abbrev pub contentCall : Detector → Call → Brought Detector
+contentCall d c = broughtBy (called d c)
+
+abbrev pub startedBy : Settled → Started Detector
+startedBy x = record { number = x .number; detector = x .detector }
+
+-- the number of settings whose mode is given by a number: 6 to 9, then 15 for a number that names no mode
+abbrev pub settingsNumber : (mode : ℕ) → Options → ℕ
+settingsNumber mode o = firstThat ((not (eqb (optionsRefusal o) 0), optionsRefusal o) ∷ (noMode mode, 15) ∷ [])
+
+-- what they return: a fresh state with these settings, or with the defaults where they are refused
+unfoldable pub settledBy : (mode : ℕ) → Options → Settled
+settledBy mode o = record { number = settingsNumber mode o; detector = fresh (cond (eqb (settingsNumber mode o) 0) o defaults) }

@@ -1,0 +1,55 @@
+-- The contracts of the station's calls, by what the code did, over plain values.
+use mathlib.Core.Path.{_≡_, refl, sym, _∙_, subst}
+use mathlib.Core.List.{List}
+use Prim.Native.Nat.{ℕ, _<_}
+use native.Mathlib.Omega.{arith}
+use borrow.Author.Tests.{ne-eqb}
+use lib.ListN.{length}
+use Rattle.content_calls.specs.Call.{Memory}
+use Rattle.station_answer.specs.Answer.{answerWords, ReadAs, after}
+use Rattle.station_answer.specs.Contracts.{Layout, Brought, FrameContract, ClearContract, SettingsContract}
+
+-- a refused call leaves the old
+kept : {A : Type 0} (r : ℕ) (new old : A) → 0 < r → old ≡ after r new old
+kept r new old h = rw (ne-eqb r 0 (λ e. omega arith)) refl
+
+module _ {D : Type 0} (l : Layout D) (b : Brought D) (s a : List ℕ) (m m′ : Memory)
+    (stored : m′ .store ≡ b .store)
+    (scratch : length (m′ .scratch) ≡ length (m .scratch))
+    (magnitudes : length (m′ .magnitudes) ≡ length (m .magnitudes))
+    (same : 0 < b .number → m′ ≡ m) where
+  pub frame-refused : (r : ℕ) → r ≡ b .number → 0 < r → l .heldBy s ≡ b .detector → FrameContract l b r s s a a m m′
+  frame-refused r e some held =
+      record {
+        number = e;
+        state = kept r (l .wordsOf (b .detector)) s some;
+        read-back = held;
+        answer = kept r (answerWords (b .cut) (b .score) (b .components)) a some;
+        answer-back = λ z. absurd (omega arith);
+        store = stored;
+        scratch-length = scratch;
+        magnitudes-length = magnitudes;
+        refused = λ _. same (omega (arith, e));
+      }
+
+  pub frame-done : 0 ≡ b .number → (s′ a′ : List ℕ) → s′ ≡ l .wordsOf (b .detector) → l .heldBy s′ ≡ b .detector
+      → a′ ≡ answerWords (b .cut) (b .score) (b .components) → ReadAs (b .cut) (b .score) (b .components) a′ → FrameContract l b 0 s s′ a a′ m m′
+  frame-done z s′ a′ es er ea ar =
+      record {
+        number = z;
+        state = es;
+        read-back = er;
+        answer = ea;
+        answer-back = λ _. ar;
+        store = stored;
+        scratch-length = scratch;
+        magnitudes-length = magnitudes;
+        refused = λ h. absurd (omega arith);
+      }
+
+module _ {D : Type 0} (l : Layout D) (b : Brought D) (s : List ℕ) where
+  pub clear-refused : (r : ℕ) → r ≡ b .number → 0 < r → l .heldBy s ≡ b .detector → ClearContract l b r s s
+  clear-refused r e some held = record { number = e; state = kept r (l .wordsOf (b .detector)) s some; read-back = held }
+
+  pub clear-done : 0 ≡ b .number → (s′ : List ℕ) → s′ ≡ l .wordsOf (b .detector) → l .heldBy s′ ≡ b .detector → ClearContract l b 0 s s′
+  clear-done z s′ es er = record { number = z; state = es; read-back = er }

@@ -1,0 +1,59 @@
+-- What the station's calls promise, of either detector: `s` is the state's words at entry and `s′` at exit, `a` and `a′` the answer's,
+-- `m` and `m′` the store, the scratch and the magnitudes, `r` the number that is returned.
+use mathlib.Core.Path.{_≡_}
+use mathlib.Core.List.{List}
+use Prim.Native.Nat.{ℕ, _<_}
+use lib.ListN.{length}
+use Rattle.timestamp.specs.declared.MaybeTimestamp.{MaybeTimestamp}
+use Rattle.score.specs.declared.Components.{Components}
+use Rattle.score.specs.declared.MaybeScore.{MaybeScore}
+use Rattle.content_calls.specs.Call.{Memory}
+use Rattle.station_answer.specs.Answer.{answerWords, ReadAs, after}
+
+-- how a detector's record `D` stands in words, and the record that words hold
+pub record Layout (D : Type 0) : Type 0 where
+  pub wordsOf : D → List ℕ
+  pub heldBy : List ℕ → D
+
+-- what a call brings by its definition: the refusal's number or 0, the detector after it (refused: as it was), the cut or none, the score
+-- or none, the components, and the store after it (refused: as it was)
+pub record Brought (D : Type 0) : Type 0 where
+  pub number : ℕ
+  pub detector : D
+  pub cut : MaybeTimestamp
+  pub score : MaybeScore
+  pub components : Components
+  pub store : List ℕ
+
+-- a frame call
+pub record FrameContract {D : Type 0} (l : Layout D) (b : Brought D) (r : ℕ) (s s′ a a′ : List ℕ) (m m′ : Memory) : Type 0 where
+  pub number : r ≡ b .number
+  pub state : s′ ≡ after r (l .wordsOf (b .detector)) s
+  -- accepted or refused, the words hold the detector that the definition gives
+  pub read-back : l .heldBy s′ ≡ b .detector
+  pub answer : a′ ≡ after r (answerWords (b .cut) (b .score) (b .components)) a
+  -- the answer of an accepted call is read as the cut, the score and the components that the definition gives
+  pub answer-back : r ≡ 0 → ReadAs (b .cut) (b .score) (b .components) a′
+  pub store : m′ .store ≡ b .store
+  -- an accepted call leaves the scratch and the magnitudes with any content: only their lengths are promised
+  pub scratch-length : length (m′ .scratch) ≡ length (m .scratch)
+  pub magnitudes-length : length (m′ .magnitudes) ≡ length (m .magnitudes)
+  -- a refused call changes no lent byte
+  pub refused : 0 < r → m′ ≡ m
+
+-- `clear`, which is lent nothing but the state
+pub record ClearContract {D : Type 0} (l : Layout D) (b : Brought D) (r : ℕ) (s s′ : List ℕ) : Type 0 where
+  pub number : r ≡ b .number
+  pub state : s′ ≡ after r (l .wordsOf (b .detector)) s
+  pub read-back : l .heldBy s′ ≡ b .detector
+
+-- what settings return: the refusal's number or 0, and a fresh detector, of the defaults where they are refused
+pub record Started (D : Type 0) : Type 0 where
+  pub number : ℕ
+  pub detector : D
+
+-- a settings call, accepted or refused
+pub record SettingsContract {D : Type 0} (l : Layout D) (x : Started D) (r : ℕ) (s′ : List ℕ) : Type 0 where
+  pub number : r ≡ x .number
+  pub state : s′ ≡ l .wordsOf (x .detector)
+  pub read-back : l .heldBy s′ ≡ x .detector
