@@ -107,7 +107,7 @@ adaptive-claim o ok calls =
     }
 
 -- the defaults are accepted
-defaults-accepted : optionsRefusal defaults ≡ 0
+pub defaults-accepted : optionsRefusal defaults ≡ 0
 unfolding optionsRefusal settingsRefusal anyTooHeavy tooHeavy allZero le ofInt isNan
 defaults-accepted = refl
 

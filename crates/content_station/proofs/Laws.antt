@@ -5,7 +5,7 @@ use mathlib.Core.List.{List}
 use Prim.Native.Nat.{ℕ, _<_, _≤_}
 use native.Mathlib.Omega.{arith}
 use borrow.Author.Tests.{eqb-true, eq-eqb, ne-eqb, lt-ltb, le-ltb}
-use lib.Dec.{eqb, ltb}
+use lib.Dec.{eqb}
 use Rattle.timestamp.specs.declared.Timestamp.{Timestamp}
 use Rattle.scoring.specs.Planes.{Planes}
 use Rattle.content.specs.declared.Detector.{Detector}

@@ -57,9 +57,9 @@ pub fn process_luma(
         scratch,
         magnitudes,
     );
-    let number = a.number;
-    if 0 < number {
-        return number;
+    let luma_number = a.number;
+    if 0 < luma_number {
+        return luma_number;
     }
     write_done(state, answer, a);
     0
@@ -92,9 +92,9 @@ pub fn process_bgr(
         scratch,
         magnitudes,
     );
-    let number = a.number;
-    if 0 < number {
-        return number;
+    let bgr_number = a.number;
+    if 0 < bgr_number {
+        return bgr_number;
     }
     write_done(state, answer, a);
     0
@@ -131,9 +131,9 @@ pub fn process_hsv(
         scratch,
         magnitudes,
     );
-    let number = a.number;
-    if 0 < number {
-        return number;
+    let hsv_number = a.number;
+    if 0 < hsv_number {
+        return hsv_number;
     }
     write_done(state, answer, a);
     0
@@ -145,9 +145,9 @@ pub fn clear(state: &mut [u64; 27]) -> u32
 {
     let d = content_words::read(state);
     let a = content::clear(d);
-    let number = a.number;
-    if 0 < number {
-        return number;
+    let clear_number = a.number;
+    if 0 < clear_number {
+        return clear_number;
     }
     let cleared = a.detector;
     content_words::write(state, cleared);

@@ -1,5 +1,5 @@
 -- The contracts of the station's calls, by what the code did, over plain values.
-use mathlib.Core.Path.{_≡_, refl, sym, _∙_, subst}
+use mathlib.Core.Path.{_≡_, refl}
 use mathlib.Core.List.{List}
 use Prim.Native.Nat.{ℕ, _<_}
 use native.Mathlib.Omega.{arith}
@@ -7,7 +7,7 @@ use borrow.Author.Tests.{ne-eqb}
 use lib.ListN.{length}
 use Rattle.content_calls.specs.Call.{Memory}
 use Rattle.station_answer.specs.Answer.{answerWords, ReadAs, after}
-use Rattle.station_answer.specs.Contracts.{Layout, Brought, FrameContract, ClearContract, SettingsContract}
+use Rattle.station_answer.specs.Contracts.{Layout, Brought, FrameContract, ClearContract}
 
 -- a refused call leaves the old
 kept : {A : Type 0} (r : ℕ) (new old : A) → 0 < r → old ≡ after r new old

@@ -1,0 +1,53 @@
+-- Lists of station calls on one detector, and what a station sees of each call.
+use mathlib.Core.Path.{_≡_}
+use mathlib.Core.Bool.{Bool, true, false, cond, not}
+use mathlib.Core.List.{List, [], _∷_}
+use Prim.Native.Nat.{ℕ}
+use lib.Dec.{eqb}
+use Rattle.timestamp.specs.declared.MaybeTimestamp.{MaybeTimestamp}
+use Rattle.timestamp.specs.declared.MaybeTimestamp.the-variants.{None}
+use Rattle.content_calls.specs.Call.{Memory, memory, Call, luma, bgr, hsv, clear}
+use Rattle.station_answer.specs.Answer.{cutIn}
+use Rattle.station_answer.specs.Contracts.{Layout, Brought, FrameContract, ClearContract}
+
+-- a frame call, and the memory that it is lent; `clear` is lent none
+abbrev pub isFrame : Call → Bool
+isFrame (luma plane w h stride ts m) = true
+isFrame (bgr pixels w h stride ts m) = true
+isFrame (hsv hs ss vs w h stride ts m) = true
+isFrame clear = false
+
+abbrev pub memoryIn : Call → Memory
+memoryIn (luma plane w h stride ts m) = m
+memoryIn (bgr pixels w h stride ts m) = m
+memoryIn (hsv hs ss vs w h stride ts m) = m
+memoryIn clear = memory [] [] []
+
+-- what a station sees of a call that it made: the call, the number that was returned, and the words of the answer and the store after it
+-- (no words and no store of `clear`)
+pub record StationCall : Type 0 where
+  pub call : Call
+  pub number : ℕ
+  pub answer : List ℕ
+  pub store : List ℕ
+
+abbrev pub wasRefused : StationCall → Bool
+wasRefused y = not (eqb (y .number) 0)
+
+-- the cut or none that the station reads from the answer's words; a refused call has none
+abbrev pub cutRead : StationCall → MaybeTimestamp
+cutRead y = cond (eqb (y .number) 0) (cutIn (y .answer)) None
+
+module _ {D : Type 0} (l : Layout D) (calls : D → Call → Brought D) where
+  -- a call that meets its contract, with the state's words s before it and s′ after it; the answer's words a before it are any
+  pub data Made : (s : List ℕ) → StationCall → (s′ : List ℕ) → Type 0 where
+    by-frame : {s s′ a a′ : List ℕ} {r : ℕ} {m′ : Memory} → (c : Call) → isFrame c ≡ true
+        → FrameContract l (calls (l .heldBy s) c) r s s′ a a′ (memoryIn c) m′
+        → Made s (record { call = c; number = r; answer = a′; store = m′ .store }) s′
+    by-clear : {s s′ : List ℕ} {r : ℕ} → ClearContract l (calls (l .heldBy s) clear) r s s′
+        → Made s (record { call = clear; number = r; answer = []; store = [] }) s′
+
+  -- a list of such calls from the words s: each call gets the words that the last one left
+  pub data MadeFrom : (s : List ℕ) → List StationCall → Type 0 where
+    none : {s : List ℕ} → MadeFrom s []
+    then : {s s′ : List ℕ} {y : StationCall} {ys : List StationCall} → Made s y s′ → MadeFrom s′ ys → MadeFrom s (y ∷ ys)
