@@ -1,215 +1,538 @@
-/* Mawerodu: cuts in the stream of one camera, for station software.
+/* mawerodu.h: finds the cuts in the video stream of one camera.
  *
- * Link target/staticlib/libstation.a (`rt staticlib station`; x86-64 Linux). Every function is proved against the definitions in
- * crates/<name>/specs, on any argument. What is asked of a caller: each pointer is not NULL, even where its length is 0, is aligned for its
- * type, and points to as many elements as the length that follows it says; nobody else writes to them, or reads those that are written,
- * until the call returns; and no piece that is written (state, answer, store, scratch, magnitudes) overlaps another piece, while planes
- * that are only read may. No function allocates, keeps a pointer, or touches anything but what it is lent, so calls on different
- * detectors may run at once.
+ * A program hands in the frames of a stream in order, as luma, BGR or HSV bytes, each with a timestamp in microseconds.
+ * The library scores how much each frame differs from the frame before and reports the timestamps of the cuts. The
+ * content detector compares a score with a fixed threshold, the adaptive detector with the scores around it.
  *
- * Memory. A detector is a state of mw_content_words() or mw_adaptive_words() words, written by one of the settings calls. A frame call is
- * lent, besides, a store, which holds the planes of the last frame and is to be handed to the next call as it was left, a scratch and
- * magnitudes, whose content is of no matter. Their lengths are those of mw_store_bytes, mw_scratch_bytes and mw_magnitudes for the size
- * of the frame; longer memory is taken too, and what lies past these lengths is never written in the store, the state and the answer.
- * Lengths count elements: words, bytes or int32_t's.
+ * Every function of the library is proved. Whatever its arguments are, a call ends, does nothing undefined and touches
+ * no memory but what it is lent. Either it does exactly what the rules say (docs/RULES.md of the source tree), or it
+ * returns the number of the first refusal that applies and changes nothing; a refused settings call sets the defaults.
+ * It allocates nothing, keeps no pointer and has no global data. What a caller has to see to is listed below, under
+ * "Duties of a caller".
  *
- * State. A state is plain words: it may be copied, kept in a file and read again on another day, with its store. Without the store, clear
- * it first: the next frame would be scored against other planes. One word for each field, as crates/content_words/specs and
- * crates/adaptive_words/specs define them: doubles as their bits, stamps in two's complement; `has` is 0 or 1, and the word after a `has`
- * of 0 is written as 0.
+ * Quick start (this is checked: examples/run of the source tree compiles and runs it):
  *
- *   content  adaptive
- *       0        0     version: 0x4d57434f4e543031 (MWCONT01), 0x4d57414441503031 (MWADAP01)
- *       1        1     threshold
- *       2        2     min_duration
- *       -        3, 4  window_width, min_content_val
- *     3-6      5-8     weights: hue, saturation, luma, edges
- *       7        -     filter_mode
- *     8, 9     9, 10   has, kernel_size
- *      10       11     initial_cut
- *      11       12     whether there is a previous frame
- *  12, 13   13, 14     has, last score
- *      14       15     has the last components
- *   15-18    16-19     last components: hue, saturation, luma, edges
- *  19, 20   20, 21     width, height
- *  21, 22        -     has, last stamp that the distance is counted from
- *  23, 24        -     whether merging is enabled, whether a merge is triggered
- *  25, 26        -     has, start of the merge
- *       -   22, 23     how many scores the window has, their running sum
- *       -   24, 25     has, stamp that the distance is counted from
- *       -   26, 27     has, last ratio
- *       -   28, 29     has, last target
- *       -   30-158     stamps of the window
- *       -  159-287     scores of the window
+ *     struct mw_content state;
+ *     struct mw_memory memory;
+ *     int64_t cut;
  *
- * Words that are no record are refused by 15: another version, a `has`, a flag or filter_mode over 1, a window_width, kernel_size, width
- * or height over 2^32 - 1, too few words. So is a bad record: settings that a settings call would refuse, a side over 4,096, a window with
- * more than 2 * window_width + 1 scores, a merge that is triggered without start or last stamp.
+ *     mw_content_default(&state);
+ *     if (mw_memory_init(&memory, 640, 480) != 0)
+ *         return 1;
+ *     while (next_frame(&luma, &ts)) { // 640 * 480 bytes, row by row, and their timestamp
+ *         uint32_t number = mw_content_feed_luma(&state, &memory, luma, 640 * 480, 640, 480, 640, ts);
+ *         if (number != MW_OK)
+ *             fprintf(stderr, "frame refused: %s\n", mw_text(number));
+ *         else if (mw_cut(&memory.answer, &cut))
+ *             printf("a new clip starts at %lld\n", (long long)cut);
+ *     }
+ *     mw_memory_free(&memory);
  *
- * Numbers. A call returns 0, or the number of a refusal: then it wrote nothing (but see the settings calls). The answer, too, is as it was:
- * do not read it after a refusal.
+ * Build it: cc film.c $(pkg-config --cflags --libs mawerodu). The library is libstation.a, for x86-64 Linux; it needs
+ * nothing but memcpy, memmove and memset.
+ *
+ * Order of this file: version, types and sizes, numbers, duties, settings, scores, cuts, frames, readers, struct
+ * mw_memory, and last the layout of the words.
  */
 #ifndef MAWERODU_H
 #define MAWERODU_H
 
 #include <stddef.h>
 #include <stdint.h>
+#include <stdlib.h>
 #include <string.h>
 
 #ifdef __cplusplus
 extern "C" {
 #endif
 
-/* The lengths of the pieces of fixed size, as mw_content_words(), mw_adaptive_words() and mw_answer_words() return them. */
+/* ---- Version ---- */
+
+#define MW_VERSION_MAJOR 0
+#define MW_VERSION_MINOR 2
+#define MW_VERSION_PATCH 0
+#define MW_VERSION ((MW_VERSION_MAJOR << 16) | (MW_VERSION_MINOR << 8) | MW_VERSION_PATCH)
+
+/* The version of the library that is linked; MW_VERSION is that of this header. As long as the major number is 0, a
+ * header and a library fit together only if their minor numbers are equal too: mw_version() >> 8 == MW_VERSION >> 8. */
+uint32_t mw_version(void);
+
+/* ---- Types and sizes ---- */
+
 #define MW_CONTENT_WORDS 27
 #define MW_ADAPTIVE_WORDS 288
 #define MW_ANSWER_WORDS 8
 
-enum mw_number {
-    MW_OK = 0,
-    MW_TOO_LARGE = 1,          /* width or height over 4,096 */
-    MW_STRIDE = 2,             /* stride below width; below 3 * width for BGR */
-    MW_DATA_SHORT = 3,         /* luma, BGR or hue data shorter than height * stride */
-    MW_SATURATION_SHORT = 4,
-    MW_VALUE_SHORT = 5,
-    MW_WEIGHT = 6,             /* a weight not finite, or beyond 2^20 in size */
-    MW_ALL_WEIGHTS_ZERO = 7,
-    MW_KERNEL = 8,             /* a set kernel size below 3 or even */
-    MW_NAN = 9,                /* a threshold or min_content_val is NaN */
-    MW_WINDOW_ZERO = 10,
-    MW_WINDOW_OVER_64 = 11,
-    MW_STORE_SHORT = 12,
-    MW_SCRATCH_SHORT = 13,     /* the scratch, or the answer */
-    MW_MAGNITUDES_SHORT = 14,
-    MW_BAD_STATE = 15          /* a state that is no record, or a bad one; in settings, a state too short, or a mode or flag over 1 */
+/* The state of a detector: its settings and all that it keeps from one call to the next, except the planes of the last
+ * frame, which are in the store. A settings call makes it. It holds no pointer, so it may be copied, and kept in a file
+ * together with its store. To go on without the store, clear the state first. */
+struct mw_content {
+    uint64_t words[MW_CONTENT_WORDS];
+};
+struct mw_adaptive {
+    uint64_t words[MW_ADAPTIVE_WORDS];
 };
 
-enum mw_filter_mode { MW_MERGE = 0, MW_SUPPRESS = 1 };
+/* The result of an accepted frame. Read it with mw_cut, mw_score and mw_delta. */
+struct mw_answer {
+    uint64_t words[MW_ANSWER_WORDS];
+};
 
-/* ---- sizes */
-
+/* The macros above, as the library has them. */
 uint64_t mw_content_words(void);
 uint64_t mw_adaptive_words(void);
 uint64_t mw_answer_words(void);
 
-/* What a frame of this size needs: bytes of store, bytes of scratch, int32_t's of magnitudes. 0 where a side is over 4,096: such a frame
- * is refused by 1. */
+/* The largest width and height of a frame. */
+#define MW_MAX_SIDE 4096
+
+/* The memory that a frame call is lent, by the size of the frame: bytes of store, bytes of scratch, int32_t's of
+ * magnitudes. More is accepted too. The macros are for arrays of fixed size; the functions are 0 where a side is over
+ * MW_MAX_SIDE, since such a frame is refused whatever it is lent.
+ *
+ * The store holds the planes of the last frame: hand it to the next call as the last call left it. Before the first
+ * frame its contents do not matter. Bytes of the store past the length for the frame never change.
+ *
+ * Scratch and magnitudes are for the time of a call alone: their contents do not matter, and an accepted call may write
+ * all of the memory that is lent, past the length that the frame needs too. Different states may take turns with them,
+ * but each state has a store of its own. */
+#define MW_STORE_BYTES(width, height) ((size_t)4 * (width) * (height))
+#define MW_SCRATCH_BYTES(width, height) \
+    ((size_t)7 * (width) * (height) + (size_t)2 * ((width) > (height) ? (width) : (height)))
+#define MW_MAGNITUDES(width, height) ((size_t)1 * (width) * (height))
 uint64_t mw_store_bytes(uint32_t width, uint32_t height);
 uint64_t mw_scratch_bytes(uint32_t width, uint32_t height);
 uint64_t mw_magnitudes(uint32_t width, uint32_t height);
 
-/* ---- settings
+/* ---- The number that a call returns ----
  *
- * Each makes a fresh state. Settings that are refused leave a fresh state with the defaults. A state too short is refused by 15, and
- * nothing is written to it. The order of refusals is 15, 10, 11, 6 to 9.
+ * 0, or the number of the first refusal that applies, in this order:
+ *   mw_content_new    6, 7, 8, 9, 15
+ *   mw_adaptive_new   10, 11, 6, 7, 8, 9
+ *   a frame           15, 1, 2, 3, 4, 5, 12, 13, 14
+ *   clear             15
+ * A frame or clear that is refused changes nothing: not the state, not the answer, no byte that it is lent. The answer
+ * is then still that of an earlier call: do not read it. Settings that are refused make a state with the default
+ * settings. */
+enum mw_number {
+    MW_OK = 0,
+    MW_TOO_LARGE = 1,        /* width or height over 4,096 */
+    MW_STRIDE = 2,           /* stride below width; below 3 * width for BGR */
+    MW_DATA_SHORT = 3,       /* luma, BGR or hue data shorter than height * stride */
+    MW_SATURATION_SHORT = 4, /* saturation plane shorter than height * stride */
+    MW_VALUE_SHORT = 5,      /* value plane shorter than height * stride */
+    MW_WEIGHT = 6,           /* a weight not finite, or beyond 2^20 in size */
+    MW_ALL_WEIGHTS_ZERO = 7,
+    MW_KERNEL = 8,           /* a set kernel size below 3 or even */
+    MW_NAN = 9,              /* threshold or min_content_val is NaN */
+    MW_WINDOW_ZERO = 10,     /* window_width 0 */
+    MW_WINDOW_OVER_64 = 11,  /* window_width over 64 */
+    MW_STORE_SHORT = 12,     /* store, scratch, magnitudes shorter than the frame needs */
+    MW_SCRATCH_SHORT = 13,
+    MW_MAGNITUDES_SHORT = 14,
+    MW_BAD_STATE = 15        /* words that are not a state of this detector; in mw_content_new, not a filter_mode */
+};
+
+/* A number in words, for a log. */
+static inline const char *mw_text(uint32_t number)
+{
+    switch (number) {
+    case MW_OK:
+        return "accepted";
+    case MW_TOO_LARGE:
+        return "width or height is over 4,096";
+    case MW_STRIDE:
+        return "stride is shorter than a row";
+    case MW_DATA_SHORT:
+        return "luma, BGR or hue data is too short";
+    case MW_SATURATION_SHORT:
+        return "saturation plane is too short";
+    case MW_VALUE_SHORT:
+        return "value plane is too short";
+    case MW_WEIGHT:
+        return "a weight is not finite, or beyond 2^20 in size";
+    case MW_ALL_WEIGHTS_ZERO:
+        return "all weights are zero";
+    case MW_KERNEL:
+        return "a set kernel size is below 3 or even";
+    case MW_NAN:
+        return "threshold or min_content_val is NaN";
+    case MW_WINDOW_ZERO:
+        return "window_width is 0";
+    case MW_WINDOW_OVER_64:
+        return "window_width is over 64";
+    case MW_STORE_SHORT:
+        return "store is too short";
+    case MW_SCRATCH_SHORT:
+        return "scratch is too short";
+    case MW_MAGNITUDES_SHORT:
+        return "magnitudes are too short";
+    case MW_BAD_STATE:
+        return "not a valid state, or not a filter mode";
+    default:
+        return "unknown number";
+    }
+}
+
+/* ---- Duties of a caller ----
  *
- *                      default        range; what it is
- *   threshold          27, or 3       not NaN; the score, or in the adaptive detector the ratio, from which on a frame is above
- *   min_duration       1000000        any; the least distance from one cut to the next, in microseconds
- *   window_width       2              1 to 64; how many scores stand on each side of the target
- *   min_content_val    15             not NaN; the score that a target must reach, besides the ratio
+ * The proofs assume these, and no call can check them.
+ *   - Pointers: none is NULL, even where its length is 0. Each is aligned for its type, and points to a whole struct or
+ *     to at least as many elements as the length after it says. Lengths count elements: bytes, or int32_t's of
+ *     magnitudes.
+ *   - Overlap: no two of state, answer, store, scratch and magnitudes overlap, nor does one of them overlap a plane.
+ *     Planes are only read, and may overlap each other.
+ *   - Others: until the call returns, nobody else writes to any of this memory, or reads what the call writes.
+ *   - Floating point: results are rounded to nearest, and denormal numbers are neither flushed to zero (FTZ) nor read
+ *     as zero (DAZ). A C program starts so, unless gcc or clang link it with -ffast-math. With FTZ or DAZ results may
+ *     differ: a weight of 5e-324 beside three of 0 is then refused by 7, and should be accepted.
+ *   - Stack: a frame call takes up to 135 KB (content) or 154 KB (adaptive) if edges are on, else 4 or 23 KB. This is
+ *     measured, and not proved.
+ *
+ * Threads: there is no global data, so calls on different states, with different memory, may run at the same time. */
+
+/* ---- Settings ----
+ *
+ * Each of these makes a fresh state. Only mw_content_new and mw_adaptive_new can refuse; they then make a state with
+ * the default settings, and return the number.
+ *
+ *   setting           default      range, and what it is
+ *   threshold         content 27   any but NaN. The score from which on a frame may be a cut
+ *                     adaptive 3   any but NaN. The least ratio of a cut; ratios are at most 255
+ *   min_duration      1000000      any. The least time from one cut to the next, in microseconds
+ *   window_width      2            1 to 64. How many scores on each side a score is compared with
+ *   min_content_val   15           any but NaN. The least score of a cut
  *   hue, saturation,
- *   luma, edges        1, 1, 1, 0     finite, up to 2^20 in size, not all zero; the weights of the four differences in the score
- *   filter_mode        MW_MERGE       0 or 1, else refused by 15
- *   kernel_size        0              0 is not set: it goes by the frame's size; else odd, from 3 on; how far edges are widened
- *   initial_cut        1              0 or 1, else refused by 15; whether the seed lies min_duration before the first scored frame (or the
- *                                     first target), so that this may be a cut, or at it
+ *   luma, edges       1, 1, 1, 0   finite, up to 2^20 in size, negative too, not all zero. The weights in the score; an
+ *                                  edge weight of 0 switches edges off, which saves most of the time of a call
+ *   filter_mode       MW_MERGE     MW_MERGE or MW_SUPPRESS. How cuts are kept min_duration apart
+ *   has_kernel        0            0: the kernel's size goes by the frame's size, and kernel_size is not looked at;
+ *                                  any other number: it is kernel_size
+ *   kernel_size                    odd, from 3 on, if has_kernel is on. The side of the square to which the edge
+ *                                  pixels are widened; by the frame's size it is 7 at 640 x 480, 13 at 1920 x 1080
+ *   initial_cut       1            0: the first cut is at least min_duration after the first frame with a score
+ *                                  (adaptive: the first that is judged); any other number: that frame may be a cut */
+
+enum mw_filter_mode { MW_MERGE = 0, MW_SUPPRESS = 1 };
+
+/* The defaults, as arguments. The weights are four arguments, the kernel is two. */
+#define MW_DEFAULT_CONTENT_THRESHOLD 27.0
+#define MW_DEFAULT_ADAPTIVE_THRESHOLD 3.0
+#define MW_DEFAULT_MIN_DURATION 1000000
+#define MW_DEFAULT_WINDOW_WIDTH 2
+#define MW_DEFAULT_MIN_CONTENT_VAL 15.0
+#define MW_DEFAULT_WEIGHTS 1.0, 1.0, 1.0, 0.0
+#define MW_DEFAULT_KERNEL 0, 0
+
+/* For luma frames: the score is the luma difference itself. */
+#define MW_LUMA_WEIGHTS 0.0, 0.0, 1.0, 0.0
+
+uint32_t mw_content_default(struct mw_content *state);
+uint32_t mw_content_new(struct mw_content *state, double threshold, uint64_t min_duration, double hue,
+                        double saturation, double luma, double edges, uint32_t filter_mode, uint32_t has_kernel,
+                        uint32_t kernel_size, uint32_t initial_cut);
+
+uint32_t mw_adaptive_default(struct mw_adaptive *state);
+uint32_t mw_adaptive_new(struct mw_adaptive *state, double threshold, uint64_t min_duration, uint32_t window_width,
+                         double min_content_val, double hue, double saturation, double luma, double edges,
+                         uint32_t has_kernel, uint32_t kernel_size, uint32_t initial_cut);
+
+/* ---- Scores ----
  *
- * MW_SUPPRESS: a frame that is above is a cut if min_duration has passed since the last cut, or since the seed if there was none. The
- * adaptive detector does so with its targets. MW_MERGE: a frame that is above is a cut if min_duration has passed since the last frame
- * above, or the seed. Else, once there was a cut, it starts a merge, which takes in the frames above after it; the merge ends at a frame
- * that is not above, min_duration or more past the last of them, if they span min_duration, and that last one is then the cut. */
-
-uint32_t mw_content_default(uint64_t *state, size_t state_len);
-uint32_t mw_content_new(uint64_t *state, size_t state_len, double threshold, uint64_t min_duration, double hue, double saturation,
-                        double luma, double edges, uint32_t filter_mode, uint32_t kernel_size, uint32_t initial_cut);
-
-uint32_t mw_adaptive_default(uint64_t *state, size_t state_len);
-uint32_t mw_adaptive_new(uint64_t *state, size_t state_len, double threshold, uint64_t min_duration, uint32_t window_width,
-                         double min_content_val, double hue, double saturation, double luma, double edges, uint32_t kernel_size,
-                         uint32_t initial_cut);
-
-/* ---- frames
+ * A frame has four planes of a byte for each pixel: hue, saturation, luma and edges. A BGR frame is converted to hue (0
+ * to 179, two degrees each), saturation and value; the luma of a BGR or HSV frame is its value, the largest of B, G and
+ * R. A luma frame has hue and saturation 0. The edge plane is 255 near an edge and 0 elsewhere; it is made only if the
+ * edge weight is not 0. A component is the mean absolute difference, 0 to 255, between one plane of a frame and that of
+ * the frame before. With the components h, s, l, e and the weights of the settings, the score of a frame is
  *
- * Rows lie one below the other: row r starts at byte r * stride, and height * stride bytes are needed, the padding of the last row
- * included. stride is in bytes for every kind of frame. A luma row has width bytes; a BGR row has 3 * width, the pixels' B, G, R; an HSV
- * frame is three planes of one stride, with a hue of 0 to 179 (larger ones are taken as they are). ts is the frame's stamp in microseconds.
+ *     (h * hue + s * saturation + l * luma + e * edges) / (|hue| + |saturation| + |luma| + |edges|)
  *
- * answer has MW_ANSWER_WORDS words: read it with mw_cut, mw_score and mw_delta below. A cut may carry the stamp of an earlier frame.
- * Refused: the number, and no word or byte is changed, so that the answer is still that of an earlier call. The order of refusals is 15,
- * 1 to 5, 12, 13 of the scratch, 13 of the answer, 14. */
+ * in double, from left to right, each step rounded once.
+ *
+ * Luma frames with the default weights: h and s are 0, so the score is a third of the luma difference, and the default
+ * threshold of 27 is reached at a luma difference of 81. With MW_LUMA_WEIGHTS it is reached at 27.
+ *
+ * No score: the first frame after a settings call or clear has none, nor has a frame of another width or height than
+ * the frame before. It starts a stretch, and is never a cut; all other frames have a score. Refused frames do not
+ * count.
+ *
+ * Change of size: the store is written with the planes of the new frame, and nothing is compared with the old ones. In
+ * the content detector the filter starts afresh: the last cut and a pending merge are forgotten, so the next cut may
+ * come less than min_duration after the last one. In the adaptive detector the window, the last cut, the ratio and the
+ * target stay: scores from before and after the change are judged together, and cuts stay min_duration apart. */
 
-uint32_t mw_content_luma(uint64_t *state, size_t state_len, uint64_t *answer, size_t answer_len, const uint8_t *plane, size_t plane_len,
+/* ---- Cuts ----
+ *
+ * The timestamp of a cut is that of the first frame of the new clip. A frame is above if its score is at least the
+ * threshold. The seed is the timestamp of the first frame with a score in a stretch (adaptive: of the first frame that
+ * is judged), less min_duration if initial_cut is on; it stops at -2^63. It stands for the last cut, or for the last
+ * frame above, as long as there is none.
+ *
+ * Content, MW_SUPPRESS: a frame above is a cut if it is at least min_duration after the last cut; else it is dropped.
+ *
+ * Content, MW_MERGE: a frame above is a cut if it is at least min_duration after the last frame above. If it is not,
+ * and the stretch has a cut already, it starts a merge. From then on no frame is a cut by itself: each frame above
+ * joins the merge. The merge ends at a frame that is not above, at least min_duration after the last frame above, if
+ * that last frame above is at least min_duration after the frame that started the merge; the last frame above is then
+ * the cut. So this cut has the timestamp of an earlier frame than the one that reports it. A merge that is pending when
+ * the film ends, or at a clear or a change of size, is lost: its cut is not reported. At the end of a film, feeding the
+ * last frame once more, min_duration later, ends a merge that is long enough.
+ *
+ * Adaptive: the window is the last 2 * window_width + 1 scores, and the target is the one in its middle. Once the
+ * window is full, each frame with a score judges the target:
+ *   average  of the other scores: (sum of the window - target) / (2 * window_width), from a running sum
+ *   ratio    if the average is less than 1e-5 in size: 255 if the target is at least min_content_val, else 0;
+ *            otherwise target / average, at most 255
+ *   cut      if the ratio is at least the threshold, the target at least min_content_val, and the target's frame at
+ *            least min_duration after the last cut
+ * A cut has the timestamp of the target's frame, and is reported window_width scores later. The first window_width
+ * frames with a score, and the last window_width frames of a film, are never judged.
+ *
+ * Timestamps that fall from one frame to the next: Suppress and the adaptive detector keep cuts min_duration apart all
+ * the same, so after a clock was set back there is no cut until it has passed the last cut by min_duration. Merge does
+ * not: there a cut may be nearer than min_duration to the cut before, or earlier. After a clock was set back, clear. */
+
+/* ---- Frames ----
+ *
+ * Row r starts at byte r * stride, and height * stride bytes are needed, the padding of the last row included. A row
+ * has width bytes; in BGR, 3 * width bytes, the pixels' B, G, R. An HSV frame is three planes of one stride, with a hue
+ * of 0 to 179 (a larger one is taken as it is). A width or height of 0 is accepted: no pixels, all components 0. ts is
+ * the timestamp in microseconds.
+ *
+ * With struct mw_memory (below) a call has eight arguments; for HSV ten. */
+
+uint32_t mw_content_luma(struct mw_content *state, struct mw_answer *answer, const uint8_t *plane, size_t plane_len,
                          uint32_t width, uint32_t height, uint32_t stride, int64_t ts, uint8_t *store, size_t store_len,
                          uint8_t *scratch, size_t scratch_len, int32_t *magnitudes, size_t magnitudes_len);
-uint32_t mw_content_bgr(uint64_t *state, size_t state_len, uint64_t *answer, size_t answer_len, const uint8_t *pixels, size_t pixels_len,
+uint32_t mw_content_bgr(struct mw_content *state, struct mw_answer *answer, const uint8_t *pixels, size_t pixels_len,
                         uint32_t width, uint32_t height, uint32_t stride, int64_t ts, uint8_t *store, size_t store_len,
                         uint8_t *scratch, size_t scratch_len, int32_t *magnitudes, size_t magnitudes_len);
-uint32_t mw_content_hsv(uint64_t *state, size_t state_len, uint64_t *answer, size_t answer_len, const uint8_t *hue, size_t hue_len,
-                        const uint8_t *saturation, size_t saturation_len, const uint8_t *value, size_t value_len, uint32_t width,
-                        uint32_t height, uint32_t stride, int64_t ts, uint8_t *store, size_t store_len, uint8_t *scratch,
-                        size_t scratch_len, int32_t *magnitudes, size_t magnitudes_len);
+uint32_t mw_content_hsv(struct mw_content *state, struct mw_answer *answer, const uint8_t *hue, size_t hue_len,
+                        const uint8_t *saturation, size_t saturation_len, const uint8_t *value, size_t value_len,
+                        uint32_t width, uint32_t height, uint32_t stride, int64_t ts, uint8_t *store, size_t store_len,
+                        uint8_t *scratch, size_t scratch_len, int32_t *magnitudes, size_t magnitudes_len);
 
-uint32_t mw_adaptive_luma(uint64_t *state, size_t state_len, uint64_t *answer, size_t answer_len, const uint8_t *plane, size_t plane_len,
-                          uint32_t width, uint32_t height, uint32_t stride, int64_t ts, uint8_t *store, size_t store_len,
-                          uint8_t *scratch, size_t scratch_len, int32_t *magnitudes, size_t magnitudes_len);
-uint32_t mw_adaptive_bgr(uint64_t *state, size_t state_len, uint64_t *answer, size_t answer_len, const uint8_t *pixels,
-                         size_t pixels_len, uint32_t width, uint32_t height, uint32_t stride, int64_t ts, uint8_t *store,
-                         size_t store_len, uint8_t *scratch, size_t scratch_len, int32_t *magnitudes, size_t magnitudes_len);
-uint32_t mw_adaptive_hsv(uint64_t *state, size_t state_len, uint64_t *answer, size_t answer_len, const uint8_t *hue, size_t hue_len,
-                         const uint8_t *saturation, size_t saturation_len, const uint8_t *value, size_t value_len, uint32_t width,
-                         uint32_t height, uint32_t stride, int64_t ts, uint8_t *store, size_t store_len, uint8_t *scratch,
-                         size_t scratch_len, int32_t *magnitudes, size_t magnitudes_len);
+uint32_t mw_adaptive_luma(struct mw_adaptive *state, struct mw_answer *answer, const uint8_t *plane, size_t plane_len,
+                          uint32_t width, uint32_t height, uint32_t stride, int64_t ts, uint8_t *store,
+                          size_t store_len, uint8_t *scratch, size_t scratch_len, int32_t *magnitudes,
+                          size_t magnitudes_len);
+uint32_t mw_adaptive_bgr(struct mw_adaptive *state, struct mw_answer *answer, const uint8_t *pixels, size_t pixels_len,
+                         uint32_t width, uint32_t height, uint32_t stride, int64_t ts, uint8_t *store, size_t store_len,
+                         uint8_t *scratch, size_t scratch_len, int32_t *magnitudes, size_t magnitudes_len);
+uint32_t mw_adaptive_hsv(struct mw_adaptive *state, struct mw_answer *answer, const uint8_t *hue, size_t hue_len,
+                         const uint8_t *saturation, size_t saturation_len, const uint8_t *value, size_t value_len,
+                         uint32_t width, uint32_t height, uint32_t stride, int64_t ts, uint8_t *store, size_t store_len,
+                         uint8_t *scratch, size_t scratch_len, int32_t *magnitudes, size_t magnitudes_len);
 
-/* Forgets the stream: settings and size stay, all else is as at the start. Refuses by 15 alone. */
-uint32_t mw_content_clear(uint64_t *state, size_t state_len);
-uint32_t mw_adaptive_clear(uint64_t *state, size_t state_len);
+/* Forgets the stream: the settings stay, and the next frame is a first frame. */
+uint32_t mw_content_clear(struct mw_content *state);
+uint32_t mw_adaptive_clear(struct mw_adaptive *state);
 
-/* ---- readers: they refuse nothing and show the record as it is; 0.0 where there is nothing. Words that are no record show nothing. A
- * component's place: 0 hue, 1 saturation, 2 luma, 3 edges; 0.0 at a place over 3. */
+/* ---- Readers ---- */
 
-uint32_t mw_content_has_score(const uint64_t *state, size_t state_len);
-double mw_content_score(const uint64_t *state, size_t state_len);
-uint32_t mw_content_has_components(const uint64_t *state, size_t state_len);
-double mw_content_component(const uint64_t *state, size_t state_len, uint32_t place);
-
-uint32_t mw_adaptive_has_score(const uint64_t *state, size_t state_len);
-double mw_adaptive_score(const uint64_t *state, size_t state_len);
-uint32_t mw_adaptive_has_components(const uint64_t *state, size_t state_len);
-double mw_adaptive_component(const uint64_t *state, size_t state_len, uint32_t place);
-uint32_t mw_adaptive_has_ratio(const uint64_t *state, size_t state_len);
-double mw_adaptive_ratio(const uint64_t *state, size_t state_len);
-uint32_t mw_adaptive_has_target(const uint64_t *state, size_t state_len);
-double mw_adaptive_target(const uint64_t *state, size_t state_len);
-
-/* ---- what an answer says, after a frame call that returned 0 */
-
-/* Whether there is a cut; if so *ts is its stamp. */
-static inline int mw_cut(const uint64_t *answer, int64_t *ts)
+/* Of an answer, after a frame call that returned 0: whether it reports a cut, and then its timestamp in *ts. */
+static inline int mw_cut(const struct mw_answer *answer, int64_t *ts)
 {
-    if (answer[0] != 1)
+    if (answer->words[0] != 1)
         return 0;
-    memcpy(ts, &answer[1], sizeof *ts);
+    memcpy(ts, &answer->words[1], sizeof *ts);
     return 1;
 }
 
-/* Whether the frame has a score; if so *score is it. */
-static inline int mw_score(const uint64_t *answer, double *score)
+/* Whether the frame has a score, and then the score in *score. */
+static inline int mw_score(const struct mw_answer *answer, double *score)
 {
-    if (answer[2] != 1)
+    if (answer->words[2] != 1)
         return 0;
-    memcpy(score, &answer[3], sizeof *score);
+    memcpy(score, &answer->words[3], sizeof *score);
     return 1;
 }
 
-/* One of the four components, by its place; 0.0 where the frame has no score. */
-static inline double mw_delta(const uint64_t *answer, unsigned place)
+/* A component of the frame, by its place: 0 hue, 1 saturation, 2 luma, 3 edges. 0.0 if the frame has no score, and at
+ * any other place. */
+static inline double mw_delta(const struct mw_answer *answer, uint32_t place)
 {
     double delta = 0.0;
     if (place < 4)
-        memcpy(&delta, &answer[4 + place], sizeof delta);
+        memcpy(&delta, &answer->words[4 + place], sizeof delta);
     return delta;
 }
+
+/* Of a state, as the last accepted call left it: score and components of the last frame; in the adaptive detector also
+ * ratio and score of the last target. Each has_ function returns 1 or 0, and the value is 0.0 where there is none. They
+ * refuse nothing; in words that are not a state there is none of these. */
+uint32_t mw_content_has_score(const struct mw_content *state);
+double mw_content_score(const struct mw_content *state);
+uint32_t mw_content_has_components(const struct mw_content *state);
+double mw_content_component(const struct mw_content *state, uint32_t place);
+
+uint32_t mw_adaptive_has_score(const struct mw_adaptive *state);
+double mw_adaptive_score(const struct mw_adaptive *state);
+uint32_t mw_adaptive_has_components(const struct mw_adaptive *state);
+double mw_adaptive_component(const struct mw_adaptive *state, uint32_t place);
+uint32_t mw_adaptive_has_ratio(const struct mw_adaptive *state);
+double mw_adaptive_ratio(const struct mw_adaptive *state);
+uint32_t mw_adaptive_has_target(const struct mw_adaptive *state);
+double mw_adaptive_target(const struct mw_adaptive *state);
+
+/* ---- All memory of a frame call in one struct ----
+ *
+ * One struct mw_memory belongs to one state, since it has the store. These functions are plain C on top of the library:
+ * no proof speaks of them. */
+struct mw_memory {
+    struct mw_answer answer; /* of the last frame that was fed; no cut and no score if that was refused */
+    uint8_t *store;
+    uint8_t *scratch;
+    int32_t *magnitudes;
+    size_t store_len;
+    size_t scratch_len;
+    size_t magnitudes_len;
+};
+
+/* Frees what mw_memory_init allocated, and leaves it empty: it may be freed again, and a frame that is fed to it is
+ * refused by 12. */
+static inline void mw_memory_free(struct mw_memory *memory)
+{
+    free(memory->store);
+    free(memory->scratch);
+    free(memory->magnitudes);
+    memory->store = NULL;
+    memory->scratch = NULL;
+    memory->magnitudes = NULL;
+    memory->store_len = 0;
+    memory->scratch_len = 0;
+    memory->magnitudes_len = 0;
+}
+
+/* Allocates memory for frames up to this width and this height. Returns 0; or 1 where a side is over MW_MAX_SIDE or
+ * there is not enough memory, and leaves it empty. What *memory held before is not freed. */
+static inline int mw_memory_init(struct mw_memory *memory, uint32_t width, uint32_t height)
+{
+    memset(&memory->answer, 0, sizeof memory->answer);
+    memory->store_len = (size_t)mw_store_bytes(width, height);
+    memory->scratch_len = (size_t)mw_scratch_bytes(width, height);
+    memory->magnitudes_len = (size_t)mw_magnitudes(width, height);
+    /* one element more, so that a length of 0 is not NULL either */
+    memory->store = (uint8_t *)calloc(memory->store_len + 1, sizeof *memory->store);
+    memory->scratch = (uint8_t *)calloc(memory->scratch_len + 1, sizeof *memory->scratch);
+    memory->magnitudes = (int32_t *)calloc(memory->magnitudes_len + 1, sizeof *memory->magnitudes);
+    if (width <= MW_MAX_SIDE && height <= MW_MAX_SIDE && memory->store != NULL && memory->scratch != NULL &&
+        memory->magnitudes != NULL)
+        return 0;
+    mw_memory_free(memory);
+    return 1;
+}
+
+/* Used by the calls below: empties the answer, and says whether there is memory. */
+static inline int mw_memory_ready(struct mw_memory *memory)
+{
+    memset(&memory->answer, 0, sizeof memory->answer);
+    return memory->store != NULL && memory->scratch != NULL && memory->magnitudes != NULL;
+}
+
+/* What a frame call takes after its timestamp. */
+#define MW_LENT(memory) \
+    (memory)->store, (memory)->store_len, (memory)->scratch, (memory)->scratch_len, (memory)->magnitudes, \
+        (memory)->magnitudes_len
+
+/* The frame calls, with memory->answer for the answer. The three planes of an HSV frame have plane_len bytes each. */
+
+static inline uint32_t mw_content_feed_luma(struct mw_content *state, struct mw_memory *memory, const uint8_t *plane,
+                                            size_t plane_len, uint32_t width, uint32_t height, uint32_t stride,
+                                            int64_t ts)
+{
+    if (!mw_memory_ready(memory))
+        return MW_STORE_SHORT;
+    return mw_content_luma(state, &memory->answer, plane, plane_len, width, height, stride, ts, MW_LENT(memory));
+}
+
+static inline uint32_t mw_content_feed_bgr(struct mw_content *state, struct mw_memory *memory, const uint8_t *pixels,
+                                           size_t pixels_len, uint32_t width, uint32_t height, uint32_t stride,
+                                           int64_t ts)
+{
+    if (!mw_memory_ready(memory))
+        return MW_STORE_SHORT;
+    return mw_content_bgr(state, &memory->answer, pixels, pixels_len, width, height, stride, ts, MW_LENT(memory));
+}
+
+static inline uint32_t mw_content_feed_hsv(struct mw_content *state, struct mw_memory *memory, const uint8_t *hue,
+                                           const uint8_t *saturation, const uint8_t *value, size_t plane_len,
+                                           uint32_t width, uint32_t height, uint32_t stride, int64_t ts)
+{
+    if (!mw_memory_ready(memory))
+        return MW_STORE_SHORT;
+    return mw_content_hsv(state, &memory->answer, hue, plane_len, saturation, plane_len, value, plane_len, width,
+                          height, stride, ts, MW_LENT(memory));
+}
+
+static inline uint32_t mw_adaptive_feed_luma(struct mw_adaptive *state, struct mw_memory *memory,
+                                             const uint8_t *plane, size_t plane_len, uint32_t width, uint32_t height,
+                                             uint32_t stride, int64_t ts)
+{
+    if (!mw_memory_ready(memory))
+        return MW_STORE_SHORT;
+    return mw_adaptive_luma(state, &memory->answer, plane, plane_len, width, height, stride, ts, MW_LENT(memory));
+}
+
+static inline uint32_t mw_adaptive_feed_bgr(struct mw_adaptive *state, struct mw_memory *memory,
+                                            const uint8_t *pixels, size_t pixels_len, uint32_t width, uint32_t height,
+                                            uint32_t stride, int64_t ts)
+{
+    if (!mw_memory_ready(memory))
+        return MW_STORE_SHORT;
+    return mw_adaptive_bgr(state, &memory->answer, pixels, pixels_len, width, height, stride, ts, MW_LENT(memory));
+}
+
+static inline uint32_t mw_adaptive_feed_hsv(struct mw_adaptive *state, struct mw_memory *memory, const uint8_t *hue,
+                                            const uint8_t *saturation, const uint8_t *value, size_t plane_len,
+                                            uint32_t width, uint32_t height, uint32_t stride, int64_t ts)
+{
+    if (!mw_memory_ready(memory))
+        return MW_STORE_SHORT;
+    return mw_adaptive_hsv(state, &memory->answer, hue, plane_len, saturation, plane_len, value, plane_len, width,
+                           height, stride, ts, MW_LENT(memory));
+}
+
+/* ---- Layout of the words ----
+ *
+ * For those who look into a state or keep it in a file; a program that calls the functions above does not need it. One
+ * word for each field: a double as its bits, a timestamp in two's complement. A `has` is 0 or 1, and what follows a
+ * `has` of 0 is written as 0.
+ *
+ *   answer
+ *     0, 1             has, timestamp of the cut
+ *     2, 3             has, score
+ *     4-7              components: hue, saturation, luma, edges
+ *
+ *   content  adaptive
+ *       0        0     version of the layout: 0x4d57434f4e543031 (MWCONT01) or 0x4d57414441503031 (MWADAP01)
+ *       1        1     threshold
+ *       2        2     min_duration
+ *       -     3, 4     window_width, min_content_val
+ *     3-6      5-8     weights: hue, saturation, luma, edges
+ *       7        -     filter_mode
+ *    8, 9    9, 10     has, kernel_size
+ *      10       11     initial_cut, 0 or 1
+ *      11       12     1 if there is a frame before, else 0
+ *  12, 13   13, 14     has, last score
+ *      14       15     has the last components
+ *   15-18    16-19     last components: hue, saturation, luma, edges
+ *  19, 20   20, 21     width, height
+ *  21, 22        -     has, last cut (Suppress) or last frame above (Merge), or the seed
+ *      23        -     1 if a merge may start, since there was a cut; else 0
+ *      24        -     1 if a merge is pending, else 0
+ *  25, 26        -     has, start of the last merge
+ *       -   22, 23     number of scores in the window, their running sum
+ *       -   24, 25     has, last cut or the seed
+ *       -   26, 27     has, last ratio
+ *       -   28, 29     has, score of the last target
+ *       -   30-158     timestamps of the window, the oldest first; places past the number of scores are not used
+ *       -  159-287     scores of the window, in the same order
+ *
+ * 15 is returned for words that are not a state: another version, a `has`, a 0-or-1 field or filter_mode that is over
+ * 1, a window_width, kernel_size, width or height over 2^32 - 1. And for a state that no run of calls can make:
+ * settings that would be refused, a width or height over 4,096, more than 2 * window_width + 1 scores in the window, a
+ * merge that is pending without a start or a last frame above. */
 
 #ifdef __cplusplus
 }
