@@ -1,6 +1,6 @@
-// Cuts a film of four frames of one pixel, with the content detector's default settings: a cut at 400000. Then the state and the
-// refusals, and the adaptive detector on a longer film.
-use mawerodu::{AdaptiveDetector, AdaptiveOptions, ContentDetector, ContentOptions, Refusal};
+// Cuts a film of four frames of one pixel, with the content detector's default settings: a cut at 400000. Then the state, the
+// settings and the refusals, and the adaptive detector on a longer film.
+use mawerodu::{AdaptiveDetector, AdaptiveOptions, Components, ContentDetector, ContentOptions, Refusal};
 
 const FILM: [(i64, u8); 4] = [(0, 0), (400000, 200), (900000, 0), (2000000, 0)];
 
@@ -18,18 +18,26 @@ fn main() -> Result<(), Refusal> {
     }
 
     // a refused frame changes nothing
-    let before = detector.state().to_vec();
+    let before = *detector.state();
     assert_eq!(detector.process_luma(&[0], 2, 1, 2, 0), Err(Refusal(3)));
-    assert_eq!(detector.state(), before);
-    // words that are no record
-    assert_eq!(ContentDetector::from_state(&[0; 27]).err(), Some(Refusal(15)));
-    assert_eq!(ContentDetector::from_state(&before[..26]).err(), Some(Refusal(15)));
+    assert_eq!(detector.state(), &before);
+    // a state can be read back; words that are not a state are refused
     assert!(ContentDetector::from_state(&before).is_ok());
-    // settings
-    let even = ContentOptions { kernel_size: Some(4), ..ContentOptions::default() };
-    assert_eq!(ContentDetector::with_options(even).err(), Some(Refusal(8)));
+    assert_eq!(ContentDetector::from_state(&[0; 27]).err(), Some(Refusal(15)));
+    // settings: a set kernel size of 0 is refused like any other below 3
+    for kernel_size in [0, 1, 2, 4] {
+        let options = ContentOptions { kernel_size: Some(kernel_size), ..ContentOptions::default() };
+        assert_eq!(ContentDetector::with_options(options).err(), Some(Refusal(8)));
+    }
     let wide = AdaptiveOptions { window_width: 65, ..AdaptiveOptions::default() };
     assert_eq!(AdaptiveDetector::with_options(wide).err(), Some(Refusal(11)));
+
+    // luma frames score a third of their luma difference at default weights, and all of it at luma-only weights
+    for (weights, score) in [(Components::DEFAULT_WEIGHTS, 30.0), (Components::LUMA_ONLY_WEIGHTS, 90.0)] {
+        let mut detector = ContentDetector::with_options(ContentOptions { weights, ..ContentOptions::default() })?;
+        assert_eq!(detector.process_luma(&[10], 1, 1, 1, 0)?.score, None);
+        assert_eq!(detector.process_luma(&[100], 1, 1, 1, 40000)?.score, Some(score));
+    }
 
     let window = AdaptiveOptions { window_width: 1, ..AdaptiveOptions::default() };
     let mut adaptive = AdaptiveDetector::with_options(window)?;

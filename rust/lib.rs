@@ -1,33 +1,94 @@
-//! Cuts in the stream of one camera: a safe wrapper of the station library (`include/mawerodu.h`).
+//! Finds the cuts in the video stream of one camera: a safe wrapper of the station library (`include/mawerodu.h`).
 //!
-//! A detector owns its state and the memory that a frame call is lent, so that nothing can be passed too short. Link
-//! `target/staticlib/libstation.a`, which `rt staticlib station` writes. No other crate is needed.
+//! Give a detector the frames of a stream in order, each with its timestamp in microseconds. It scores how much each
+//! frame differs from the one before and reports the timestamps of the cuts. The timestamp of a cut is that of the
+//! first frame of the new clip.
 //!
 //! ```text
 //! let mut detector = ContentDetector::new();
 //! for (ts, luma) in frames {
-//!     if let Some(cut) = detector.process_luma(&luma, width, height, width, ts)?.cut {
+//!     let answer = detector.process_luma(&luma, width, height, width, ts)?;
+//!     if let Some(cut) = answer.cut {
 //!         println!("cut at {cut}");
 //!     }
 //! }
 //! ```
+//!
+//! [`ContentDetector`] compares each score with a fixed threshold. [`AdaptiveDetector`] compares it with the scores of
+//! the frames around it and reports the cut some frames later.
+//!
+//! A detector owns its state and the memory that the library works on, so no call is refused for short memory. A call
+//! that is refused returns a [`Refusal`] and changes nothing: the stream goes on as if the call had not been made.
+//! Different threads may use different detectors at the same time.
+//!
+//! Link `libstation.a`, which `rt staticlib station` writes to `target/staticlib`. No other crate is needed. The library
+//! assumes the floating-point environment that Rust assumes: rounding to nearest, no flush to zero.
+//!
+//! # Scores
+//!
+//! A frame has four planes: hue, saturation, luma (for a BGR or HSV frame the value) and edges. A component is the mean
+//! absolute difference of a plane from the same plane of the frame before, 0.0 to 255.0. The score is their weighted
+//! sum, divided by the sum of the absolute weights, all in `f64` and from left to right:
+//!
+//! ```text
+//! (hue * w.hue + saturation * w.saturation + luma * w.luma + edges * w.edges)
+//!     / (|w.hue| + |w.saturation| + |w.luma| + |w.edges|)
+//! ```
+//!
+//! A luma frame has hue and saturation 0. With the default weights 1, 1, 1, 0 its score is therefore a third of the
+//! luma difference, and a threshold of 27 is reached at a luma difference of 81.
+//! [`Components::LUMA_ONLY_WEIGHTS`] make the score the luma difference itself.
+//!
+//! The edge plane is computed only if the weight of edges is not zero. It is empty if a side of the frame is below 3.
+//!
+//! # Frames without a score
+//!
+//! The first frame of a detector has no score, because there is no frame before it. It is never a cut. The same holds
+//! for the first frame after `clear` and for each frame whose width or height differs from the frame before.
+//!
+//! # A change of size
+//!
+//! After a change of width or height the content detector starts afresh: it forgets the last cut and a merge that is
+//! pending, so that the next cut can be less than `min_duration` after the last one. The adaptive detector keeps its
+//! window, last cut, ratio and target, so that scores from before and after the change are judged together; only
+//! `clear` drops them.
+//!
+//! # Timestamps that fall
+//!
+//! Timestamps may have any value, but should not fall from one frame to the next. If they do, the adaptive detector
+//! and [`FilterMode::Suppress`] still keep cuts `min_duration` apart, and a frame earlier than the last cut is not a
+//! cut. [`FilterMode::Merge`] does not: a cut can then be closer to the one before, or even earlier.
+#![warn(missing_docs)]
 
 use std::fmt;
 
-/// The functions of the library as they are. `include/mawerodu.h` says what each does, and what is asked of a caller.
-#[allow(clippy::missing_safety_doc)]
+/// The C functions of the library. `include/mawerodu.h` says what each does and what it asks of its caller. The states
+/// and the answer have a fixed number of words and are passed as pointers to arrays; every other piece of memory is a
+/// pointer and the number of its elements.
+#[allow(missing_docs, clippy::missing_safety_doc)]
 pub mod sys {
+    pub const CONTENT_WORDS: usize = 27;
+    pub const ADAPTIVE_WORDS: usize = 288;
+    pub const ANSWER_WORDS: usize = 8;
+
+    /// The state of a content detector.
+    pub type ContentState = [u64; CONTENT_WORDS];
+    /// The state of an adaptive detector.
+    pub type AdaptiveState = [u64; ADAPTIVE_WORDS];
+    /// The result of an accepted frame.
+    pub type Answer = [u64; ANSWER_WORDS];
+
     extern "C" {
+        pub fn mw_version() -> u32;
         pub fn mw_content_words() -> u64;
         pub fn mw_adaptive_words() -> u64;
         pub fn mw_answer_words() -> u64;
         pub fn mw_store_bytes(width: u32, height: u32) -> u64;
         pub fn mw_scratch_bytes(width: u32, height: u32) -> u64;
         pub fn mw_magnitudes(width: u32, height: u32) -> u64;
-        pub fn mw_content_default(state: *mut u64, state_len: usize) -> u32;
+        pub fn mw_content_default(state: *mut ContentState) -> u32;
         pub fn mw_content_new(
-            state: *mut u64,
-            state_len: usize,
+            state: *mut ContentState,
             threshold: f64,
             min_duration: u64,
             hue: f64,
@@ -35,13 +96,13 @@ pub mod sys {
             luma: f64,
             edges: f64,
             filter_mode: u32,
+            has_kernel: u32,
             kernel_size: u32,
             initial_cut: u32,
         ) -> u32;
-        pub fn mw_adaptive_default(state: *mut u64, state_len: usize) -> u32;
+        pub fn mw_adaptive_default(state: *mut AdaptiveState) -> u32;
         pub fn mw_adaptive_new(
-            state: *mut u64,
-            state_len: usize,
+            state: *mut AdaptiveState,
             threshold: f64,
             min_duration: u64,
             window_width: u32,
@@ -50,19 +111,18 @@ pub mod sys {
             saturation: f64,
             luma: f64,
             edges: f64,
+            has_kernel: u32,
             kernel_size: u32,
             initial_cut: u32,
         ) -> u32;
     }
 
     macro_rules! detector {
-        ($luma:ident, $bgr:ident, $hsv:ident, $clear:ident) => {
+        ($state:ident, $luma:ident, $bgr:ident, $hsv:ident, $clear:ident) => {
             extern "C" {
                 pub fn $luma(
-                    state: *mut u64,
-                    state_len: usize,
-                    answer: *mut u64,
-                    answer_len: usize,
+                    state: *mut $state,
+                    answer: *mut Answer,
                     plane: *const u8,
                     plane_len: usize,
                     width: u32,
@@ -77,10 +137,8 @@ pub mod sys {
                     magnitudes_len: usize,
                 ) -> u32;
                 pub fn $bgr(
-                    state: *mut u64,
-                    state_len: usize,
-                    answer: *mut u64,
-                    answer_len: usize,
+                    state: *mut $state,
+                    answer: *mut Answer,
                     pixels: *const u8,
                     pixels_len: usize,
                     width: u32,
@@ -95,10 +153,8 @@ pub mod sys {
                     magnitudes_len: usize,
                 ) -> u32;
                 pub fn $hsv(
-                    state: *mut u64,
-                    state_len: usize,
-                    answer: *mut u64,
-                    answer_len: usize,
+                    state: *mut $state,
+                    answer: *mut Answer,
                     hue: *const u8,
                     hue_len: usize,
                     saturation: *const u8,
@@ -116,58 +172,65 @@ pub mod sys {
                     magnitudes: *mut i32,
                     magnitudes_len: usize,
                 ) -> u32;
-                pub fn $clear(state: *mut u64, state_len: usize) -> u32;
+                pub fn $clear(state: *mut $state) -> u32;
             }
         };
     }
-    detector!(mw_content_luma, mw_content_bgr, mw_content_hsv, mw_content_clear);
-    detector!(mw_adaptive_luma, mw_adaptive_bgr, mw_adaptive_hsv, mw_adaptive_clear);
+    detector!(ContentState, mw_content_luma, mw_content_bgr, mw_content_hsv, mw_content_clear);
+    detector!(AdaptiveState, mw_adaptive_luma, mw_adaptive_bgr, mw_adaptive_hsv, mw_adaptive_clear);
 
     macro_rules! readers {
-        ($($has:ident, $value:ident;)*) => {
+        ($($state:ident, $has:ident, $value:ident;)*) => {
             extern "C" {
-                $(pub fn $has(state: *const u64, state_len: usize) -> u32;
-                pub fn $value(state: *const u64, state_len: usize) -> f64;)*
+                $(pub fn $has(state: *const $state) -> u32;
+                pub fn $value(state: *const $state) -> f64;)*
             }
         };
     }
     readers! {
-        mw_content_has_score, mw_content_score;
-        mw_adaptive_has_score, mw_adaptive_score;
-        mw_adaptive_has_ratio, mw_adaptive_ratio;
-        mw_adaptive_has_target, mw_adaptive_target;
+        ContentState, mw_content_has_score, mw_content_score;
+        AdaptiveState, mw_adaptive_has_score, mw_adaptive_score;
+        AdaptiveState, mw_adaptive_has_ratio, mw_adaptive_ratio;
+        AdaptiveState, mw_adaptive_has_target, mw_adaptive_target;
     }
     extern "C" {
-        pub fn mw_content_has_components(state: *const u64, state_len: usize) -> u32;
-        pub fn mw_content_component(state: *const u64, state_len: usize, place: u32) -> f64;
-        pub fn mw_adaptive_has_components(state: *const u64, state_len: usize) -> u32;
-        pub fn mw_adaptive_component(state: *const u64, state_len: usize, place: u32) -> f64;
+        pub fn mw_content_has_components(state: *const ContentState) -> u32;
+        pub fn mw_content_component(state: *const ContentState, place: u32) -> f64;
+        pub fn mw_adaptive_has_components(state: *const AdaptiveState) -> u32;
+        pub fn mw_adaptive_component(state: *const AdaptiveState, place: u32) -> f64;
     }
 }
 
-/// The number of a refusal, 1 to 15. A refused call changed nothing.
+/// The version of the library that is linked: major, minor, patch.
+pub fn version() -> (u32, u32, u32) {
+    // SAFETY: it takes nothing and returns a number.
+    let number = unsafe { sys::mw_version() };
+    (number >> 16, number >> 8 & 255, number & 255)
+}
+
+/// The number of a refusal, 1 to 15; `Display` says what it means. The refused call changed nothing.
 #[derive(Clone, Copy, Debug, PartialEq, Eq)]
 pub struct Refusal(pub u32);
 
 impl fmt::Display for Refusal {
     fn fmt(&self, f: &mut fmt::Formatter<'_>) -> fmt::Result {
         let what = match self.0 {
-            1 => "width or height over 4,096",
-            2 => "stride below the length of a row",
-            3 => "luma, BGR or hue data too short",
-            4 => "saturation plane too short",
-            5 => "value plane too short",
-            6 => "a weight not finite, or beyond 2^20 in size",
-            7 => "all weights zero",
-            8 => "a set kernel size below 3 or even",
-            9 => "a threshold or min_content_val is NaN",
-            10 => "window 0",
-            11 => "window over 64",
-            12 => "store too short",
-            13 => "scratch or answer too short",
-            14 => "magnitudes too short",
-            15 => "bad state record",
-            _ => "refused",
+            1 => "width or height is over 4,096",
+            2 => "stride is shorter than a row",
+            3 => "luma, BGR or hue data is too short",
+            4 => "saturation plane is too short",
+            5 => "value plane is too short",
+            6 => "a weight is not finite, or beyond 2^20 in size",
+            7 => "all weights are zero",
+            8 => "a set kernel size is below 3 or even",
+            9 => "threshold or min_content_val is NaN",
+            10 => "window_width is 0",
+            11 => "window_width is over 64",
+            12 => "store is too short",
+            13 => "scratch is too short",
+            14 => "magnitudes are too short",
+            15 => "not a valid state",
+            _ => "unknown refusal",
         };
         write!(f, "{}: {what}", self.0)
     }
@@ -183,58 +246,86 @@ fn passed(number: u32) -> Result<(), Refusal> {
     }
 }
 
-/// One number for each of the four kinds of difference. A frame's differences are 0 to 255; weights are finite, up to 2^20 in size,
-/// and may be negative.
+/// One number for each plane: the components of a frame (0.0 to 255.0), or the weights that they have in the score.
 #[derive(Clone, Copy, Debug, PartialEq)]
 pub struct Components {
+    /// Of the hue plane.
     pub hue: f64,
+    /// Of the saturation plane.
     pub saturation: f64,
+    /// Of the luma plane.
     pub luma: f64,
+    /// Of the edge plane.
     pub edges: f64,
 }
 
+impl Components {
+    /// Hue, saturation and luma count alike; edges are off. Luma frames, which have no hue and no saturation, score a
+    /// third of their luma difference.
+    pub const DEFAULT_WEIGHTS: Components = Components { hue: 1.0, saturation: 1.0, luma: 1.0, edges: 0.0 };
+
+    /// Only luma counts: the score is the luma difference itself. For luma frames.
+    pub const LUMA_ONLY_WEIGHTS: Components = Components { hue: 0.0, saturation: 0.0, luma: 1.0, edges: 0.0 };
+}
+
 impl Default for Components {
-    /// The default weights: hue, saturation and luma weigh alike, edges are off.
+    /// The default weights.
     fn default() -> Self {
-        Components { hue: 1.0, saturation: 1.0, luma: 1.0, edges: 0.0 }
+        Components::DEFAULT_WEIGHTS
     }
 }
 
-/// What an accepted frame brings.
+/// The result of an accepted frame.
 #[derive(Clone, Copy, Debug, PartialEq)]
 pub struct Answer {
-    /// The stamp of a cut, which may be that of an earlier frame.
+    /// The timestamp of a cut that this frame reports. It can be that of an earlier frame: in
+    /// [`FilterMode::Merge`], and always in the adaptive detector.
     pub cut: Option<i64>,
-    /// The frame's score. The first frame of a stretch has none.
+    /// The frame's score. The first frame of a detector has none, nor has the first frame after `clear` or after a
+    /// change of width or height.
     pub score: Option<f64>,
-    /// The differences that the score is made of; 0.0 without a score.
+    /// The components that the score is computed from; four times 0.0 if there is no score.
     pub components: Components,
 }
 
-/// How cuts are kept `min_duration` apart.
+/// How the content detector keeps cuts `min_duration` apart. A frame is *above* if its score is at or over the
+/// threshold.
 #[derive(Clone, Copy, Debug, PartialEq, Eq)]
 pub enum FilterMode {
-    /// A frame at or over the threshold is a cut if `min_duration` has passed since the last such frame. Else, once there was a cut,
-    /// it starts a merge, which takes in those after it. The merge ends at a frame below, `min_duration` or more past the last of
-    /// them, if they span `min_duration`: that last one is then the cut.
+    /// A run of frames above that follow each other closely brings a cut at its start, and if it lasts long enough one
+    /// at its end.
+    ///
+    /// A frame above is a cut if it comes `min_duration` or more after the last frame above. Otherwise, once there was
+    /// a cut, it starts a merge. The merge takes in all frames above that follow. It ends at a frame that is not above,
+    /// `min_duration` or more after the last frame above, if the frames above of the merge span `min_duration`; the
+    /// last of them is then the cut.
+    ///
+    /// So this cut is reported late, with the timestamp of an earlier frame. A merge that spans less than
+    /// `min_duration` stays pending, and a frame above joins it however much later it comes. A merge that is pending at
+    /// the end of the stream, at a `clear` or at a change of size is lost: its cut is never reported.
     Merge,
-    /// A frame at or over the threshold is a cut if `min_duration` has passed since the last cut, and else is dropped.
+    /// A frame above is a cut if it comes `min_duration` or more after the last cut. Other frames above are dropped. A
+    /// cut is reported with its own frame.
     Suppress,
 }
 
 /// Settings of the content detector. `ContentOptions::default()` has the defaults.
 #[derive(Clone, Copy, Debug, PartialEq)]
 pub struct ContentOptions {
-    /// The score from which on a frame is over the threshold. Any number but NaN.
+    /// A frame with at least this score is above the threshold. Any number but NaN; 27 by default.
     pub threshold: f64,
-    /// The least distance from one cut to the next, in microseconds.
+    /// The least time from one cut to the next, in microseconds; 1,000,000 by default.
     pub min_duration: u64,
-    /// How much each difference counts in the score: their weighted sum, over the sum of the weights' sizes. Not all zero.
+    /// How much each component counts in the score. Each weight is finite, at most 2^20 in size, and may be negative;
+    /// not all are zero. [`Components::DEFAULT_WEIGHTS`] by default.
     pub weights: Components,
+    /// How cuts are kept `min_duration` apart; [`FilterMode::Merge`] by default.
     pub filter_mode: FilterMode,
-    /// An odd number from 3 on; None goes by the frame's size.
+    /// The side of the square by which edges are widened: an odd number from 3 on, or `None` (the default) to choose it
+    /// by the frame's size.
     pub kernel_size: Option<u32>,
-    /// Whether the seed lies the minimum before the first scored frame, so that this frame may be a cut, or at it.
+    /// Whether the first frame that has a score may be a cut (the default). If not, the first cut comes at least
+    /// `min_duration` after that frame. This applies anew after `clear` and after a change of size.
     pub initial_cut: bool,
 }
 
@@ -243,7 +334,7 @@ impl Default for ContentOptions {
         ContentOptions {
             threshold: 27.0,
             min_duration: 1_000_000,
-            weights: Components::default(),
+            weights: Components::DEFAULT_WEIGHTS,
             filter_mode: FilterMode::Merge,
             kernel_size: None,
             initial_cut: true,
@@ -254,19 +345,23 @@ impl Default for ContentOptions {
 /// Settings of the adaptive detector. `AdaptiveOptions::default()` has the defaults.
 #[derive(Clone, Copy, Debug, PartialEq)]
 pub struct AdaptiveOptions {
-    /// The ratio of a target to the average of the scores about it from which on it is a cut. Any number but NaN.
+    /// A frame whose score has at least this ratio to the average of the scores around it may be a cut. Any number but
+    /// NaN; 3 by default.
     pub threshold: f64,
-    /// The least distance from one cut to the next, in microseconds.
+    /// The least time from one cut to the next, in microseconds; 1,000,000 by default.
     pub min_duration: u64,
-    /// How many scores stand on each side of the target, 1 to 64.
+    /// How many scores on each side a frame's score is compared with, 1 to 64; 2 by default.
     pub window_width: u32,
-    /// The score that a target must reach, besides the ratio, to be a cut. Any number but NaN.
+    /// The least score of a cut. Any number but NaN; 15 by default.
     pub min_content_val: f64,
-    /// How much each difference counts in the score: their weighted sum, over the sum of the weights' sizes. Not all zero.
+    /// How much each component counts in the score. Each weight is finite, at most 2^20 in size, and may be negative;
+    /// not all are zero. [`Components::DEFAULT_WEIGHTS`] by default.
     pub weights: Components,
-    /// An odd number from 3 on; None goes by the frame's size.
+    /// The side of the square by which edges are widened: an odd number from 3 on, or `None` (the default) to choose it
+    /// by the frame's size.
     pub kernel_size: Option<u32>,
-    /// Whether the seed lies the minimum before the first target, so that this target may be a cut, or at it.
+    /// Whether the first frame that is judged may be a cut (the default). If not, the first cut comes at least
+    /// `min_duration` after that frame. This applies anew after `clear`.
     pub initial_cut: bool,
 }
 
@@ -277,23 +372,15 @@ impl Default for AdaptiveOptions {
             min_duration: 1_000_000,
             window_width: 2,
             min_content_val: 15.0,
-            weights: Components::default(),
+            weights: Components::DEFAULT_WEIGHTS,
             kernel_size: None,
             initial_cut: true,
         }
     }
 }
 
-/// A set size of 0 would read as not set: 2, which is refused by 8 as 0 would be.
-fn kernel_number(kernel_size: Option<u32>) -> u32 {
-    match kernel_size {
-        None => 0,
-        Some(0) => 2,
-        Some(k) => k,
-    }
-}
-
-/// The memory that a frame call is lent. It grows with the frames.
+/// The memory that a frame call is lent: the store, which holds the planes of the last frame, and two pieces whose
+/// contents do not matter. It grows with the frames.
 #[derive(Clone, Default)]
 struct Lent {
     store: Vec<u8>,
@@ -303,8 +390,13 @@ struct Lent {
 
 impl Lent {
     fn fit(&mut self, width: u32, height: u32) {
+        // SAFETY: they take and return numbers.
         let (store, scratch, magnitudes) = unsafe {
-            (sys::mw_store_bytes(width, height), sys::mw_scratch_bytes(width, height), sys::mw_magnitudes(width, height))
+            (
+                sys::mw_store_bytes(width, height),
+                sys::mw_scratch_bytes(width, height),
+                sys::mw_magnitudes(width, height),
+            )
         };
         if self.store.len() < store as usize {
             self.store.resize(store as usize, 0);
@@ -317,15 +409,15 @@ impl Lent {
         }
     }
 
-    /// Calls, and calls once more with enough memory where it was too short: a refused call changed nothing. So memory grows for a
-    /// frame that is in order alone.
+    /// Calls, and if the memory is too short, lends enough and calls again. The memory grows only for a frame that is
+    /// otherwise accepted, since short memory is the last reason to refuse one.
     fn answered(
         &mut self,
         width: u32,
         height: u32,
-        mut call: impl FnMut(&mut Lent, &mut [u64]) -> u32,
+        mut call: impl FnMut(&mut Lent, &mut sys::Answer) -> u32,
     ) -> Result<Answer, Refusal> {
-        let mut answer = vec![0u64; unsafe { sys::mw_answer_words() } as usize];
+        let mut answer = [0; sys::ANSWER_WORDS];
         let mut number = call(self, &mut answer);
         if matches!(number, 12..=14) {
             self.fit(width, height);
@@ -336,7 +428,7 @@ impl Lent {
     }
 }
 
-fn answer_of(w: &[u64]) -> Answer {
+fn answer_of(w: &sys::Answer) -> Answer {
     let float = |i: usize| f64::from_bits(w[i]);
     Answer {
         cut: (w[0] == 1).then_some(w[1] as i64),
@@ -345,41 +437,61 @@ fn answer_of(w: &[u64]) -> Answer {
     }
 }
 
+/// Words for a state, once the library's states and answers are known to have as many words as here: a library of
+/// another layout would write past them.
+fn blank<const N: usize>(library: u64) -> [u64; N] {
+    // SAFETY: it takes nothing and returns a number.
+    let answer = unsafe { sys::mw_answer_words() };
+    let here = (N as u64, sys::ANSWER_WORDS as u64);
+    assert_eq!((library, answer), here, "the linked library has states or answers of another size than this wrapper");
+    [0; N]
+}
+
+// SAFETY of the calls in a detector: state and answer have as many words as the library's, which `blank` checked; every
+// other pointer and length are those of a slice or a vector; each lives through the call, and what is written overlaps
+// nothing else.
 macro_rules! detector {
-    ($name:ident, $words:ident, $default:ident, $luma:ident, $bgr:ident, $hsv:ident, $clear:ident, $has_score:ident, $score:ident, $has_components:ident, $component:ident) => {
+    ($name:ident, $state:ident, $words:ident, $default:ident, $luma:ident, $bgr:ident, $hsv:ident, $clear:ident, $has_score:ident, $score:ident, $has_components:ident, $component:ident) => {
         impl $name {
             /// A detector with the default settings.
             pub fn new() -> Self {
-                let mut state = vec![0u64; unsafe { sys::$words() } as usize];
-                let number = unsafe { sys::$default(state.as_mut_ptr(), state.len()) };
+                let mut state = blank(unsafe { sys::$words() });
+                let number = unsafe { sys::$default(&mut state) };
                 debug_assert_eq!(number, 0);
                 $name { state, lent: Lent::default() }
             }
 
-            /// The state as words, to be kept. The store is no part of it: see `from_state`.
-            pub fn state(&self) -> &[u64] {
+            /// The state as plain words, which can be stored and handed to `from_state` later. The planes of the last
+            /// frame are not part of it.
+            pub fn state(&self) -> &sys::$state {
                 &self.state
             }
 
-            /// A detector with the settings and the size of a state that was kept. The stream is cleared, since the planes of the last
-            /// frame were not kept: the next frame has no score. Refused by 15 where the words are no record, or a record of what no
-            /// detector can be in.
-            pub fn from_state(words: &[u64]) -> Result<Self, Refusal> {
-                let mut state = words.to_vec();
-                passed(unsafe { sys::$clear(state.as_mut_ptr(), state.len()) })?;
+            /// A detector with the settings and the frame size of a stored state. The rest of that state is cleared,
+            /// because the planes of the last frame are not part of it: the next frame has no score. Refused by 15 if
+            /// the words are not a valid state.
+            pub fn from_state(words: &sys::$state) -> Result<Self, Refusal> {
+                let mut state: sys::$state = blank(unsafe { sys::$words() });
+                state.copy_from_slice(words);
+                passed(unsafe { sys::$clear(&mut state) })?;
                 Ok($name { state, lent: Lent::default() })
             }
 
-            /// A luma frame, row by row, with its stamp in microseconds. Row r starts at byte r * `stride`, and `height` * `stride` bytes
-            /// are needed, the padding of the last row included.
-            pub fn process_luma(&mut self, plane: &[u8], width: u32, height: u32, stride: u32, ts: i64) -> Result<Answer, Refusal> {
-                let s = &mut self.state;
+            /// Takes a luma frame with its timestamp in microseconds. Row r starts at byte r * `stride` of `plane`;
+            /// height * `stride` bytes are needed, the padding of the last row included. Refused by 1, 2 or 3.
+            pub fn process_luma(
+                &mut self,
+                plane: &[u8],
+                width: u32,
+                height: u32,
+                stride: u32,
+                ts: i64,
+            ) -> Result<Answer, Refusal> {
+                let state = &mut self.state;
                 self.lent.answered(width, height, |m, answer| unsafe {
                     sys::$luma(
-                        s.as_mut_ptr(),
-                        s.len(),
-                        answer.as_mut_ptr(),
-                        answer.len(),
+                        state,
+                        answer,
                         plane.as_ptr(),
                         plane.len(),
                         width,
@@ -396,15 +508,22 @@ macro_rules! detector {
                 })
             }
 
-            /// A BGR frame, three bytes a pixel in the order B, G, R. `stride` is in bytes too, so at least 3 * `width`.
-            pub fn process_bgr(&mut self, pixels: &[u8], width: u32, height: u32, stride: u32, ts: i64) -> Result<Answer, Refusal> {
-                let s = &mut self.state;
+            /// Takes a BGR frame with its timestamp in microseconds: three bytes a pixel, in the order B, G, R. Row r
+            /// starts at byte r * `stride` of `pixels`, and `stride` is at least 3 * `width`; height * `stride` bytes
+            /// are needed, the padding of the last row included. Refused by 1, 2 or 3.
+            pub fn process_bgr(
+                &mut self,
+                pixels: &[u8],
+                width: u32,
+                height: u32,
+                stride: u32,
+                ts: i64,
+            ) -> Result<Answer, Refusal> {
+                let state = &mut self.state;
                 self.lent.answered(width, height, |m, answer| unsafe {
                     sys::$bgr(
-                        s.as_mut_ptr(),
-                        s.len(),
-                        answer.as_mut_ptr(),
-                        answer.len(),
+                        state,
+                        answer,
                         pixels.as_ptr(),
                         pixels.len(),
                         width,
@@ -421,7 +540,9 @@ macro_rules! detector {
                 })
             }
 
-            /// An HSV frame, as three planes of one stride, in bytes. Hue is 0 to 179.
+            /// Takes an HSV frame with its timestamp in microseconds: three planes of one stride, with a hue of 0 to
+            /// 179 (a larger one is taken as it is). Row r of a plane starts at byte r * `stride`; height * `stride`
+            /// bytes are needed of each, the padding of the last row included. Refused by 1 to 5.
             #[allow(clippy::too_many_arguments)]
             pub fn process_hsv(
                 &mut self,
@@ -433,13 +554,11 @@ macro_rules! detector {
                 stride: u32,
                 ts: i64,
             ) -> Result<Answer, Refusal> {
-                let s = &mut self.state;
+                let state = &mut self.state;
                 self.lent.answered(width, height, |m, answer| unsafe {
                     sys::$hsv(
-                        s.as_mut_ptr(),
-                        s.len(),
-                        answer.as_mut_ptr(),
-                        answer.len(),
+                        state,
+                        answer,
                         hue.as_ptr(),
                         hue.len(),
                         saturation.as_ptr(),
@@ -460,28 +579,33 @@ macro_rules! detector {
                 })
             }
 
-            /// Forgets the stream: settings and size stay, all else is as at the start.
+            /// Forgets the stream: the settings and the frame size stay, everything else is as at the start. The next
+            /// frame has no score.
             pub fn clear(&mut self) {
-                let number = unsafe { sys::$clear(self.state.as_mut_ptr(), self.state.len()) };
+                let number = unsafe { sys::$clear(&mut self.state) };
                 debug_assert_eq!(number, 0);
             }
 
-            /// The last frame's score.
+            /// The score of the last accepted frame, if it had one.
             pub fn last_score(&self) -> Option<f64> {
-                let (p, n) = (self.state.as_ptr(), self.state.len());
-                unsafe { (sys::$has_score(p, n) == 1).then(|| sys::$score(p, n)) }
+                let state = &self.state;
+                unsafe { (sys::$has_score(state) == 1).then(|| sys::$score(state)) }
             }
 
-            /// The last frame's components.
+            /// The components of the last accepted frame, if it had a score.
             pub fn last_components(&self) -> Option<Components> {
-                let (p, n) = (self.state.as_ptr(), self.state.len());
-                let at = |place| unsafe { sys::$component(p, n, place) };
-                (unsafe { sys::$has_components(p, n) } == 1)
-                    .then(|| Components { hue: at(0), saturation: at(1), luma: at(2), edges: at(3) })
+                let state = &self.state;
+                let at = |place| unsafe { sys::$component(state, place) };
+                (unsafe { sys::$has_components(state) } == 1).then(|| Components {
+                    hue: at(0),
+                    saturation: at(1),
+                    luma: at(2),
+                    edges: at(3),
+                })
             }
         }
 
-        /// The state's words, without the memory that is lent.
+        /// Shows the words of the state.
         impl fmt::Debug for $name {
             fn fmt(&self, f: &mut fmt::Formatter<'_>) -> fmt::Result {
                 f.debug_struct(stringify!($name)).field("state", &self.state).finish_non_exhaustive()
@@ -496,15 +620,16 @@ macro_rules! detector {
     };
 }
 
-/// A cut is a frame whose score reaches the threshold, thinned by the filter.
+/// Reports a cut where a frame's score reaches the threshold, at most one in `min_duration` as [`FilterMode`] says.
 #[derive(Clone)]
 pub struct ContentDetector {
-    state: Vec<u64>,
+    state: sys::ContentState,
     lent: Lent,
 }
 
 detector!(
     ContentDetector,
+    ContentState,
     mw_content_words,
     mw_content_default,
     mw_content_luma,
@@ -518,13 +643,12 @@ detector!(
 );
 
 impl ContentDetector {
-    /// A detector with these settings.
+    /// A detector with these settings. Refused by 6 to 9.
     pub fn with_options(o: ContentOptions) -> Result<Self, Refusal> {
         let mut d = Self::new();
         passed(unsafe {
             sys::mw_content_new(
-                d.state.as_mut_ptr(),
-                d.state.len(),
+                &mut d.state,
                 o.threshold,
                 o.min_duration,
                 o.weights.hue,
@@ -535,7 +659,8 @@ impl ContentDetector {
                     FilterMode::Merge => 0,
                     FilterMode::Suppress => 1,
                 },
-                kernel_number(o.kernel_size),
+                o.kernel_size.is_some() as u32,
+                o.kernel_size.unwrap_or(0),
                 o.initial_cut as u32,
             )
         })?;
@@ -543,15 +668,24 @@ impl ContentDetector {
     }
 }
 
-/// A cut is a frame whose score stands out of those about it.
+/// Reports a cut where a frame's score stands out from the scores around it.
+///
+/// The last 2 * `window_width` + 1 scores form a window. Whenever a score comes in and the window is full, the frame in
+/// its middle, the target, is judged: `window_width` scored frames after it came. The ratio of the target is its score
+/// divided by the average of the other scores in the window, at most 255; if that average is below 1e-5 in size, the
+/// ratio is 255 if the score is at least `min_content_val`, and 0 if not. The target is a cut if its ratio is at least
+/// the threshold, its score at least `min_content_val`, and its timestamp `min_duration` or more after the last cut.
+///
+/// The first and the last `window_width` scored frames of a stream are never judged, so no cut is reported there.
 #[derive(Clone)]
 pub struct AdaptiveDetector {
-    state: Vec<u64>,
+    state: sys::AdaptiveState,
     lent: Lent,
 }
 
 detector!(
     AdaptiveDetector,
+    AdaptiveState,
     mw_adaptive_words,
     mw_adaptive_default,
     mw_adaptive_luma,
@@ -565,13 +699,12 @@ detector!(
 );
 
 impl AdaptiveDetector {
-    /// A detector with these settings.
+    /// A detector with these settings. Refused by 10, 11, or 6 to 9.
     pub fn with_options(o: AdaptiveOptions) -> Result<Self, Refusal> {
         let mut d = Self::new();
         passed(unsafe {
             sys::mw_adaptive_new(
-                d.state.as_mut_ptr(),
-                d.state.len(),
+                &mut d.state,
                 o.threshold,
                 o.min_duration,
                 o.window_width,
@@ -580,22 +713,24 @@ impl AdaptiveDetector {
                 o.weights.saturation,
                 o.weights.luma,
                 o.weights.edges,
-                kernel_number(o.kernel_size),
+                o.kernel_size.is_some() as u32,
+                o.kernel_size.unwrap_or(0),
                 o.initial_cut as u32,
             )
         })?;
         Ok(d)
     }
 
-    /// The last target's ratio to the average of the scores about it.
+    /// The ratio of the last target: its score divided by the average of the other scores in the window, at most 255.
+    /// `None` until a window was full.
     pub fn last_adaptive_ratio(&self) -> Option<f64> {
-        let (p, n) = (self.state.as_ptr(), self.state.len());
-        unsafe { (sys::mw_adaptive_has_ratio(p, n) == 1).then(|| sys::mw_adaptive_ratio(p, n)) }
+        let state = &self.state;
+        unsafe { (sys::mw_adaptive_has_ratio(state) == 1).then(|| sys::mw_adaptive_ratio(state)) }
     }
 
-    /// The last target's score.
+    /// The score of the last target, the frame that was judged last. `None` until a window was full.
     pub fn last_target_score(&self) -> Option<f64> {
-        let (p, n) = (self.state.as_ptr(), self.state.len());
-        unsafe { (sys::mw_adaptive_has_target(p, n) == 1).then(|| sys::mw_adaptive_target(p, n)) }
+        let state = &self.state;
+        unsafe { (sys::mw_adaptive_has_target(state) == 1).then(|| sys::mw_adaptive_target(state)) }
     }
 }

@@ -389,7 +389,7 @@ fn subtracted() -> Row {
 }
 
 /// A record of random bytes: the replays' generator is too short for so many lists.
-fn record(random: &mut Random) -> [u8; lists::RECORD] {
+pub fn record(random: &mut Random) -> [u8; lists::RECORD] {
     (random.next() as u128 | (random.next() as u128) << 64).to_le_bytes()
 }
 
@@ -452,7 +452,7 @@ fn content_lists(which: Lists) -> [Row; 2] {
 }
 
 /// Calls of a long list of adaptive calls, in which wide windows fill: one list in sixteen is one.
-const LONG: u64 = 240;
+pub const LONG: u64 = 240;
 
 fn adaptive_lists(which: Lists) -> [Row; 2] {
     let counts = (0..which.adaptive).map(|list| if list % 16 == 15 { LONG } else { list % 24 + 1 });

@@ -5,16 +5,24 @@
 //! driver ROOT --time                    times both sides
 mod adaptive_lists;
 #[cfg(rattle)]
+mod border;
+#[cfg(rattle)]
 mod compare;
 mod content_lists;
 #[cfg(rattle)]
 mod edges;
+#[cfg(rattle)]
+mod foreign;
 mod generator;
 mod lists;
+#[cfg(rattle)]
+mod pixel;
 #[cfg(rattle)]
 mod rattle;
 mod replay;
 mod replay_filter;
+#[cfg(rattle)]
+mod rules;
 mod rust;
 mod session;
 #[cfg(rattle)]
@@ -26,6 +34,8 @@ mod station;
 mod table;
 #[cfg(rattle)]
 mod time;
+#[cfg(rattle)]
+mod wrapper;
 
 use std::path::{Path, PathBuf};
 use std::process::ExitCode;
@@ -89,6 +99,9 @@ fn rows(root: &Path, words: &[String]) -> Vec<table::Row> {
         adaptive: number(words, "--count", 200_000),
     };
     let mut rows = compare::rows(which);
+    rows.extend(wrapper::rows(which));
+    rows.extend(border::rows());
+    rows.extend(foreign::rows(which.seed));
     rows.extend(edges::rows());
     rows.extend(sessions::rows(root));
     rows.push(replays(root));

@@ -3,6 +3,8 @@ use std::fmt::Debug;
 
 pub struct Row {
     name: &'static str,
+    /// What the proved side is held against.
+    beside: &'static str,
     compared: u64,
     differ: u64,
     smallest: Option<(u64, String)>,
@@ -10,7 +12,13 @@ pub struct Row {
 
 impl Row {
     pub fn new(name: &'static str) -> Self {
-        Self { name, compared: 0, differ: 0, smallest: None }
+        Self { name, beside: "the Rust", compared: 0, differ: 0, smallest: None }
+    }
+
+    /// A row of what the Rust has no counterpart for.
+    #[cfg(rattle)]
+    pub fn by_rules(name: &'static str) -> Self {
+        Self { beside: "the rules", ..Self::new(name) }
     }
 
     #[cfg(rattle)]
@@ -19,14 +27,14 @@ impl Row {
     }
 
     /// Counts one comparison. Of the inputs that show a difference it keeps the one of least size.
-    pub fn compare<T: PartialEq + Debug>(&mut self, size: u64, input: impl Fn() -> String, rust: T, rattle: T) {
+    pub fn compare<T: PartialEq + Debug>(&mut self, size: u64, input: impl Fn() -> String, expected: T, rattle: T) {
         self.compared += 1;
-        if rust == rattle {
+        if expected == rattle {
             return;
         }
         self.differ += 1;
         if self.smallest.as_ref().is_none_or(|(least, _)| size < *least) {
-            self.smallest = Some((size, format!("{}: the Rust {rust:?}, Rattle {rattle:?}", input())));
+            self.smallest = Some((size, format!("{}: {} {expected:?}, Rattle {rattle:?}", input(), self.beside)));
         }
     }
 }

@@ -2,7 +2,8 @@
 //! Whole frame calls go through the station library, with memory that was written before. The frames of a call come
 //! in turn, so that each differs from the one before.
 use crate::generator::Generator;
-use crate::station::{ADAPTIVE, CONTENT, Functions, Station};
+use crate::rules::Settings;
+use crate::station::{self, ADAPTIVE, CONTENT, Frame, Functions, Planes, Station};
 use crate::{rattle, rust};
 use mediatime::Timestamp;
 use scenesdetect::content::{Components, DEFAULT_WEIGHTS};
@@ -134,20 +135,28 @@ impl Rust {
     }
 }
 
-fn station_call(station: &mut Station, functions: &Functions, kind: Kind, film: &Film, i: usize) {
-    let (w, h, ts) = (film.width, film.height, stamp(i).micros());
-    let planes = film.planes(i);
-    let number = match kind {
-        Kind::Luma => station.frame(functions.luma(), planes[0], w, h, w, ts),
-        Kind::Bgr => station.frame(functions.bgr(), &film.frames[i % 2], w, h, 3 * w, ts),
-        Kind::Hsv => station.hsv(functions.hsv(), planes, w, h, w, ts),
+fn station_call<const N: usize>(station: &mut Station<N>, functions: &Functions<N>, kind: Kind, film: &Film, i: usize) {
+    let (width, height, ts) = (film.width, film.height, stamp(i).micros());
+    let (planes, stride) = match kind {
+        Kind::Luma => (Planes::Luma(film.planes(i)[0]), width),
+        Kind::Bgr => (Planes::Bgr(&film.frames[i % 2]), 3 * width),
+        Kind::Hsv => (Planes::Hsv(film.planes(i)), width),
     };
-    assert_eq!(number, 0);
+    let memory = station.memory();
+    assert_eq!(station.call(functions, Frame { planes, width, height, stride, ts }, memory), 0);
 }
 
 /// One kind of call on one film, by both sides.
-fn both(name: &str, kind: Kind, film: &Film, mut rust: Rust, station: (u32, Station), functions: &Functions) {
-    let mut station = station.1.sized(film.width, film.height);
+fn both<const N: usize>(
+    name: &str,
+    kind: Kind,
+    film: &Film,
+    mut rust: Rust,
+    settings: Settings,
+    functions: &Functions<N>,
+) {
+    let mut station = Station::sized(film.width, film.height);
+    assert_eq!(station.settle(functions, &settings), 0);
     row(
         name,
         best(film.n(), |i| rust.call(kind, film, i)),
@@ -158,13 +167,13 @@ fn both(name: &str, kind: Kind, film: &Film, mut rust: Rust, station: (u32, Stat
 fn content_calls(name: &str, kind: Kind, film: &Film, weights: Components, k: Option<u32>) {
     let options = content::Options::new().with_weights(weights).with_kernel_size(k).with_simd(false);
     let rust = Rust::Content(content::Detector::new(options.clone()));
-    both(name, kind, film, rust, Station::content(&options), &CONTENT);
+    both(name, kind, film, rust, station::content_settings(&options, &[0; 16]), &CONTENT);
 }
 
 fn adaptive_calls(name: &str, kind: Kind, film: &Film) {
     let options = adaptive::Options::new().with_simd(false);
     let rust = Rust::Adaptive(adaptive::Detector::new(options.clone()));
-    both(name, kind, film, rust, Station::adaptive(&options), &ADAPTIVE);
+    both(name, kind, film, rust, station::adaptive_settings(&options, &[0; 16]), &ADAPTIVE);
 }
 
 fn frame_calls(film: &Film, picture: &str) {
