@@ -12,7 +12,7 @@ clear-requires : tie.Need-clear-requires
 clear-requires c κs = search needs
 
 returns : tie.Need-returns
-returns c = cleared-refused _ _ (rw (c .before .before .read .ensures) at (c .before .clear .ensures)) (c .if1 .taken)
+returns c = cleared-refused _ _ (rw (c .before .before .read .ensures) at (c .before .clear .ensures)) (omega arith)
 
 write-requires : tie.Need-write-requires
 write-requires c κs = search needs

@@ -9,7 +9,7 @@ try-new-requires : tie.Need-try-new-requires
 try-new-requires c κs = search needs
 
 returns : tie.Need-returns
-returns c = by-refused _ _ _ (c .before .before .try-new .ensures) (c .if1 .taken)
+returns c = by-refused _ _ _ (c .before .before .try-new .ensures) (omega arith)
 
 new-requires : tie.Need-new-requires
 new-requires c κs = search needs
@@ -20,11 +20,11 @@ try-new-requires-2 c κs = search needs
 returns-2 : tie.Need-returns-2
 returns-2 c =
     let t = c .before .before .before in
-    by-no-mode _ _ _ (t .before .before .before .try-new .ensures) (omega arith) (t .if2 .taken) _
+    by-no-mode _ _ _ (t .before .before .before .try-new .ensures) (omega arith) (omega arith) _
     (rw (c .before .before .new .ensures) at (c .before .try-new2 .ensures))
 
 returns-3 : tie.Need-returns-3
-returns-3 c = by-mode _ _ _ (c .before .before .before .try-new .ensures) (omega arith) (c .if2 .left)
+returns-3 c = by-mode _ _ _ (c .before .before .before .try-new .ensures) (omega arith) (omega arith)
 
 pub settled-by-spec : {M : Type 1} → statement M
 settled-by-spec =
