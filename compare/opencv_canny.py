@@ -1,5 +1,5 @@
 #!/usr/bin/python3
-"""Document 01's edges, before dilation, beside OpenCV's Canny with the same marks.
+"""The edges of RULES 5, before dilation, beside OpenCV's Canny with the same marks.
 
 Needs Debian's python3-opencv (with numpy). OpenCV runs cv2.Canny(luma, low, high, apertureSize=3, L2gradient=False),
 low and high being the marks of the median. The rule is written out here in whole numbers; that it is the Rust's is

@@ -1,5 +1,5 @@
 #!/usr/bin/python3
-"""Document 01's HSV rule beside OpenCV's own 8-bit conversion, over all 2^24 pixels.
+"""The HSV rule of RULES 3 beside OpenCV's own 8-bit conversion, over all 2^24 pixels.
 
 Needs Debian's python3-opencv (with numpy). The rule is worked out in whole numbers. A pixel is smaller than
 another if its largest byte is, or that is equal and (B, G, R) comes first.

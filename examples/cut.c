@@ -61,7 +61,7 @@ static int bgr(struct mw_content *state)
     return mw_content_clear(state) == MW_OK;
 }
 
-/* Differences of 10, 30 and 20, and what the state shows of them. Place 4 is none. */
+/* Differences of 10, 30 and 20, and what the state shows of them. There is no place 4. */
 static int hsv(struct mw_content *state, struct mw_memory *memory)
 {
     static const uint8_t hue[2] = {10, 20}, saturation[2] = {50, 80}, value[2] = {100, 120};
@@ -178,7 +178,7 @@ static int refused_settings(void)
     return 1;
 }
 
-/* Frames that are refused, and memory that can't be had. */
+/* Frames that are refused, and memory that is not available. */
 static int refused_frames(struct mw_content *state, struct mw_memory *memory)
 {
     static const uint8_t luma[2] = {0, 255};

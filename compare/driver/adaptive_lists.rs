@@ -37,7 +37,7 @@ pub fn settled(options: Options) -> (u32, Detector) {
         _ if !lists::weights_fit(*options.weights()) => 6,
         Err(Error::Content(content::Error::ZeroWeights)) => 7,
         Err(Error::Content(content::Error::InvalidKernelSize(_))) => 8,
-        Err(e) => panic!("{e:?} is no refusal of document 01"),
+        Err(e) => panic!("{e:?} is not in the table of refusals"),
         Ok(_) if options.adaptive_threshold().is_nan() || options.min_content_val().is_nan() => 9,
         Ok(detector) => return (0, detector),
     };

@@ -87,7 +87,7 @@ const KERNELS: [u32; 13] = [0, 1, 2, 3, 4, 5, 6, 7, 101, 1 << 31, (1 << 31) + 1,
 const WINDOWS: [u32; 6] = [2, 1, 64, 0, 65, u32::MAX];
 
 /// One settings call: its number, and all words that it leaves. Refused settings leave the words of the defaults, as the
-/// other settings call writes them. The words before the call are of no state.
+/// other settings call writes them. The words before the call are not a state.
 fn settled<const N: usize>(row: &mut Row, functions: &Functions<N>, defaults: &Station<N>, settings: Settings) {
     let number = settings.refusal();
     let mut station = Station::blank([0; 3]);

@@ -73,7 +73,7 @@ struct Conversion {
 
 impl Conversion {
     /// The oracle's answer and what it leaves in a memory that held `before`, of which the first `lent` bytes are
-    /// lent. The Rattle side asks for exactly the planes' bytes and else answers 12; a refusal writes nothing.
+    /// lent. The Rattle side asks for exactly the planes' bytes and otherwise returns 12; a refusal writes nothing.
     fn expected(&self, before: &[u8], lent: usize, src: &[u8], (width, height, stride): Size) -> (u32, Vec<u8>) {
         let mut memory = before.to_vec();
         let refusal = (self.check)(src, width, height, stride);
@@ -193,7 +193,7 @@ fn means() -> Row {
 }
 
 /// Both planes of a frame. The memories go on behind what is lent, which is `more` places longer than the planes, or
-/// shorter; the Rattle side asks for exactly the planes' places, and else answers 12 and writes nothing.
+/// shorter; the Rattle side asks for exactly the planes' places, and otherwise returns 12 and writes nothing.
 fn sobel_one(row: &mut Row, input: &[u8], width: u32, height: u32, more: [isize; 2]) {
     let n = input.len();
     let (mut mag, mut dir) = (vec![-7; n + 2], vec![77; n + 2]);
@@ -407,7 +407,7 @@ fn written(list: for<'a> fn(&[u8], &'a mut [u8]) -> &'a [u8]) -> impl FnMut(&[u8
     move |script| list(script, &mut out).to_vec()
 }
 
-/// Whole lists of calls: all that each call brings. Of a list that differs the calls behind the first that shows it
+/// Whole lists of calls: all that each call gives. Of a list that differs the calls behind the first that shows it
 /// are left out. Each list's detector is shown at its end.
 fn whole_lists<D: Listed>(
     row: &mut Row,

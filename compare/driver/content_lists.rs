@@ -23,7 +23,7 @@ impl Listed for Detector {
             _ if !lists::weights_fit(options.weights()) => 6,
             Err(Error::ZeroWeights) => 7,
             Err(Error::InvalidKernelSize(_)) => 8,
-            Err(e) => panic!("{e:?} is no refusal of document 01"),
+            Err(e) => panic!("{e:?} is not in the table of refusals"),
             Ok(_) if options.threshold().is_nan() => 9,
             Ok(detector) => return (0, detector),
         };

@@ -39,7 +39,7 @@ fn content(generator: &mut Generator, width: u32, height: u32, kind: u32) -> Vec
 
 /// Answer, edge plane, and the memories behind what is lent, which is `more` places longer than the planes (edges,
 /// magnitudes, luma), or shorter. The Rattle side asks for exactly the planes' places: with fewer luma bytes it
-/// answers 3, with more of them, or other lengths of the lent memory, 12; a refusal writes nothing. Of the magnitudes,
+/// returns 3, with more of them, or other lengths of the lent memory, 12; a refusal writes nothing. Of the magnitudes,
 /// which are scratch, those behind the lent ones are compared, and all after a refusal.
 fn one(row: &mut Row, luma: &[u8], width: u32, height: u32, k: u32, more: [isize; 3]) {
     let n = (width * height) as usize;

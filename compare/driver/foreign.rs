@@ -177,7 +177,7 @@ fn read<const N: usize>(
     input: impl Fn() -> String,
 ) {
     let words = given.words();
-    // words that are no record show nothing
+    // of words that are not a record nothing is shown
     let shown = |has: usize, value: usize| match judged != Judged::NoRecord && words[has] == 1 {
         true => (1, bits(f64::from_bits(words[value]))),
         false => (0, 0),

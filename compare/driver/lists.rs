@@ -52,7 +52,7 @@ macro_rules! calls {
 }
 pub(crate) use calls;
 
-/// What the calls brought, as bytes.
+/// The results of the calls, as bytes.
 #[derive(Default)]
 pub struct Output(pub Vec<u8>);
 
@@ -262,7 +262,7 @@ pub fn is_bad(r: &[u8]) -> bool {
     r[13] % 32 == 1
 }
 
-/// A list on its way: the detector, the film, the store as it is to be, and what the calls brought.
+/// A list while it runs: the detector, the film, the store as it is to be, and the results of the calls.
 struct Run<D> {
     detector: D,
     film: Film,
@@ -322,7 +322,7 @@ impl<D: Listed> Run<D> {
         self.answer(0, cut, true);
     }
 
-    /// What a call brought: the number; the cut; score and components, which only an accepted frame has; what the
+    /// The result of a call: the number; the cut; score and components, which only an accepted frame has; what the
     /// readers show; the store.
     fn answer(&mut self, number: u32, cut: Option<Timestamp>, accepted: bool) {
         let (out, scorer) = (&mut self.out, self.detector.scorer());
@@ -343,7 +343,7 @@ impl<D: Listed> Run<D> {
     }
 }
 
-/// What a list brings, and the detector after it.
+/// The results of a list, and the detector after it.
 pub fn run<D: Listed>(script: &[u8]) -> (Vec<u8>, D) {
     let mut records = script.chunks_exact(RECORD);
     let mut run = Run::new(records.next().expect("a record of settings"));

@@ -1,6 +1,7 @@
 //! A luma frame of one pixel on the words of any state that calls accept, also of one that no run reaches: the words of
-//! state and answer after it, and the store. For states that the Rust can't be handed; written from document 01 and the
-//! two functions of the Rust that it names, `filter_merge` and `push_and_check`, not from the proved code.
+//! state and answer after it, and the store. For states that the Rust can't be handed; it follows docs/RULES.md and the
+//! two functions of the Rust that are named there, `filter_merge` and `push_and_check`, and is not made from the proved
+//! code.
 use crate::rules::{Layout, Own, Settings};
 
 /// An optional value, as two words.

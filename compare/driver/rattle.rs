@@ -81,7 +81,7 @@ pub fn bgr_to_hsv_pixel(b: u8, g: u8, r: u8) -> u32 {
 }
 
 // SAFETY of the calls below: each address and length are those of a slice that lives through the call, a slice lent
-// to be written is no other's, and the contracts ask nothing more (no `requires`).
+// to be written is not shared, and the contracts ask nothing more (no `requires`).
 
 pub fn bgr_to_hsv_planes(out: &mut [u8], src: &[u8], width: u32, height: u32, stride: u32) -> u32 {
     unsafe { c::mw_bgr_to_hsv_planes(out.as_mut_ptr(), out.len(), src.as_ptr(), src.len(), width, height, stride) }
@@ -146,7 +146,7 @@ pub fn median(luma: &[u8]) -> u8 {
     unsafe { c::mw_median(luma.as_ptr(), luma.len()) }
 }
 
-/// What a list of content calls brings, written to `out`; the rest of `out` stays.
+/// The results of a list of content calls, written to `out`; the rest of `out` stays.
 pub fn content_list<'a>(script: &[u8], out: &'a mut [u8]) -> &'a [u8] {
     let count = unsafe { c::mw_content_list(script.as_ptr(), script.len(), out.as_mut_ptr(), out.len()) };
     &out[..count as usize]

@@ -232,7 +232,7 @@ fn batches<D: Listed>(count: fn(usize) -> usize) -> String {
     out
 }
 
-/// Lists of adaptive calls, then document 01's sample rows and an average of exactly 1e-5.
+/// Lists of adaptive calls, then samples of RULES 13.2 and an average of exactly 1e-5.
 fn adaptive() -> String {
     let mut out = batches::<adaptive::Detector>(|c| if c % 64 == 63 { 240 } else { c % 24 + 1 });
     let luma = LUMA_ONLY_WEIGHTS;

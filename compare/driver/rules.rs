@@ -1,5 +1,5 @@
 //! The rules of the station library that the Rust has no counterpart for: settings by numbers, the words of a state, the
-//! numbers of refused calls. Written from document 01 and include/mawerodu.h, not from the proved code.
+//! numbers of refused calls. It follows docs/RULES.md and include/mawerodu.h, and is not made from the proved code.
 use crate::station::{Frame, Planes};
 
 /// Settings as a settings call gets them. A flag is off for 0 and on for any other number.
@@ -118,8 +118,8 @@ pub const ADAPTIVE: Layout = Layout {
     doubles: |place| matches!(place, 14 | 16..=19 | 23 | 27 | 29 | 159..=287),
 };
 
-/// What words are: no record, a bad record, or a state that calls accept. Calls refuse the first two by 15, but readers
-/// show a bad record as it is.
+/// What words are: not a record, a bad record, or a state that calls accept. Calls refuse the first two by 15, but
+/// readers show a bad record as it is.
 #[derive(Clone, Copy, Debug, PartialEq)]
 pub enum Judged {
     NoRecord,

@@ -1,4 +1,4 @@
-//! The oracle's answers in the numbers of document 01.
+//! The oracle's answers in the numbers of the table of refusals (RULES 10.1).
 use mediatime::Timestamp;
 use scenesdetect::frame::{HsvFrame, HsvFrameError, HsvPlane, LumaFrame, LumaFrameError, RgbFrame, RgbFrameError};
 use scenesdetect::reach;

@@ -1,5 +1,5 @@
-//! The session program as document 01 states it, run by the oracle. Written from the document alone: what a line is,
-//! is read here a second time.
+//! The session program of RULES 11, run by the oracle. It follows the text of the rules and is not made from the proved
+//! code: what a line is, is worked out here a second time.
 use crate::rust;
 use mediatime::Timestamp;
 use scenesdetect::content::{Detector, Options};
@@ -8,7 +8,7 @@ use scenesdetect::frame::LumaFrame;
 const MOST_BYTES: usize = 8192;
 const MOST_PIXELS: u64 = 1024;
 
-/// "over 255", "outside 32" and "outside 64 bits" are all below this: a greater number is this one.
+/// Over every bound of a field (255, and those of 32 and 64 bits). A number that does not fit 128 bits is read as this.
 const HUGE: u128 = u128::MAX;
 
 /// A frame line's stamp, sides and luma values.
@@ -19,7 +19,7 @@ struct Frame {
     luma: Vec<u8>,
 }
 
-/// "all decimal", "leading zeros allowed".
+/// A decimal number, which may have leading zeros (RULES 11.2).
 fn whole(field: &[u8]) -> Option<u128> {
     let text = str::from_utf8(field).ok()?;
     if text.is_empty() || !text.bytes().all(|b| b.is_ascii_digit()) {
@@ -29,7 +29,7 @@ fn whole(field: &[u8]) -> Option<u128> {
     Some(if digits.is_empty() { 0 } else { digits.parse().unwrap_or(HUGE) })
 }
 
-/// "a minus only before a stamp".
+/// A stamp: the only number that may have a minus before it.
 fn stamp(field: &[u8]) -> Option<i64> {
     let (size, sign) = match field.strip_prefix(b"-") {
         Some(rest) => (whole(rest)?, -1),
@@ -65,7 +65,7 @@ fn answer(detector: &mut Detector, line: &[u8]) -> (u32, Option<Timestamp>) {
     (0, detector.process_luma(frame))
 }
 
-/// What the lines brought, by answer, and how many cuts: it shows that the inputs reach each.
+/// How many lines had which answer, and how many cuts there were: it shows that the inputs reach each.
 #[derive(Default)]
 #[cfg_attr(not(rattle), allow(dead_code))]
 pub struct Seen {
@@ -80,7 +80,7 @@ pub struct Seen {
 pub fn output(input: &[u8], seen: &mut Seen) -> Vec<u8> {
     let mut detector = Detector::new(Options::new().with_simd(false));
     let mut out = b"frame,answer,cut\n".to_vec();
-    // "Nothing after the last line feed is no line"
+    // where nothing follows the last line feed there is no further line
     for (i, line) in input.split_inclusive(|&b| b == b'\n').enumerate() {
         let (number, cut) = answer(&mut detector, line.strip_suffix(b"\n").unwrap_or(line));
         let shown = cut.map_or("-".to_string(), |ts| ts.micros().to_string());

@@ -1,4 +1,4 @@
-//! Random inputs of the session program: frame lines about each bound of document 01, whole and damaged.
+//! Random inputs of the session program: frame lines about each bound of RULES 11.3, whole and damaged.
 use crate::generator::Random;
 
 const STAMPS: [&str; 24] = [

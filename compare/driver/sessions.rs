@@ -120,7 +120,7 @@ fn shrunk(mut input: Vec<u8>, chunk: usize) -> Vec<u8> {
     input
 }
 
-/// Memory that may be too small: the whole output, or 0, which only memory without the spare bytes may bring.
+/// Memory that may be too small: the whole output, or 0, which only memory without the spare bytes may give.
 fn little_room(row: &mut Row, inputs: &mut Inputs, room: usize) {
     let lines = inputs.below(13);
     let input = inputs.input(lines, usize::MAX);

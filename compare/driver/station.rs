@@ -220,7 +220,7 @@ impl<const N: usize> Station<N> {
     }
 
     // SAFETY of the calls: the words of state and answer lie between guards of their own memory, each other address and
-    // length are those of a slice, what is written is no other's, and nothing more is asked.
+    // length are those of a slice, what is written is not shared, and nothing more is asked.
 
     fn state_at(&mut self) -> *mut [u64; N] {
         unsafe { self.state.as_mut_ptr().add(GUARD).cast() }
@@ -309,7 +309,7 @@ impl<const N: usize> Station<N> {
         unsafe { (functions.components.1)(self.state_seen(), place) }
     }
 
-    /// What a call brought, as the lists of the other side write it.
+    /// The result of a call, as the lists of the other side write it.
     fn show(&self, functions: &Functions<N>, number: u32, accepted: bool, out: &mut Output) {
         let [cut, ts, score, bits, deltas @ ..] = self.answer() else { panic!("an answer has eight words") };
         let maybe = |out: &mut Output, tag: u64, word: u64| {
@@ -402,7 +402,7 @@ pub fn frame_of<'a>(r: &[u8], film: &'a Film, f: &lists::Frame) -> Frame<'a> {
     Frame { planes, width: f.width, height: f.height, stride: f.stride, ts: film.stamp() }
 }
 
-/// What a list brings through the library. A call that is refused must leave state, answer and lent memory as they
+/// The results of a list through the library. A call that is refused must leave state, answer and lent memory as they
 /// were, a `clear` all but the state, and no call may write past what it is lent: where one does, a byte that no list
 /// has is put out.
 fn run<D: Listed, const N: usize>(functions: &Functions<N>, settings: Settings, script: &[u8]) -> Vec<u8> {

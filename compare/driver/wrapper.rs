@@ -137,7 +137,7 @@ impl Wrapped for AdaptiveDetector {
     }
 }
 
-/// What a frame brought: the number, or the cut, and score and components as the answer has them.
+/// The result of a frame: the number, or the cut, and score and components as the answer has them.
 type Brought = Result<(Option<i64>, Option<Vec<u64>>, Vec<u64>), u32>;
 
 fn brought(result: Result<Answer, Refusal>) -> Brought {

@@ -1,4 +1,4 @@
-//! Stand-in for the crate `mediatime`, which lies outside the Rust's files: `Timestamp` as document 01 states it.
+//! Stand-in for the crate `mediatime`, which is not among the Rust's files: `Timestamp` by RULES 1.1 to 1.4.
 //! A stamp is a signed 64-bit count of microseconds; a duration is a whole count of them, below 2^64.
 use core::time::Duration;
 
@@ -16,7 +16,7 @@ impl Timestamp {
         self.micros
     }
 
-    /// None when this stamp is earlier, else the difference.
+    /// None when this stamp is earlier, otherwise the difference.
     pub const fn duration_since(&self, earlier: &Self) -> Option<Duration> {
         let difference = self.micros as i128 - earlier.micros as i128;
         if difference < 0 { None } else { Some(Duration::from_micros(difference as u64)) }
@@ -50,7 +50,7 @@ impl Timebase {
 #[derive(Debug, Clone, Copy)]
 pub struct TimeRange;
 
-/// Its arithmetic can't be had, so `with_min_frames` is never called.
+/// Its arithmetic is not available, so `with_min_frames` is never called.
 #[derive(Debug, Clone, Copy)]
 pub struct Rate;
 

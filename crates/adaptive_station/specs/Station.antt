@@ -1,4 +1,4 @@
--- The adaptive detector at the station's border: its record in words, what its calls bring, and what settings return.
+-- The adaptive detector as the station calls it: its record in words, the results of its calls, and what settings return.
 use Rattle.adaptive.specs.declared.Detector.{Detector}
 use Rattle.adaptive.specs.declared.Settled.{Settled}
 use Rattle.content_calls.specs.Call.{Call}
@@ -6,9 +6,11 @@ use Rattle.adaptive_calls.specs.Call.{Outcome, called}
 use Rattle.adaptive_words.specs.Record.{adaptiveWords, adaptiveOf}
 use Rattle.station_answer.specs.Contracts.{Layout, Brought, Started}
 
+-- the record of the adaptive detector in words
 abbrev pub adaptiveLayout : Layout Detector
 adaptiveLayout = record { wordsOf = adaptiveWords; heldBy = adaptiveOf }
 
+-- the result of a call, by the outcome that the detector's definition gives
 abbrev pub broughtBy : Outcome → Brought Detector
 broughtBy o =
     record {
@@ -20,9 +22,10 @@ broughtBy o =
       store = o .store;
     }
 
--- what a call of the adaptive detector brings
+-- the result of a call of the adaptive detector
 abbrev pub adaptiveCall : Detector → Call → Brought Detector
 adaptiveCall d c = broughtBy (called d c)
 
+-- what a settings call returns, by what the detector's definition gives
 abbrev pub startedBy : Settled → Started Detector
 startedBy x = record { number = x .number; detector = x .detector }

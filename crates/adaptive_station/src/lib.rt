@@ -17,7 +17,7 @@ use adaptive::Settled;
 use score::Components;
 use timestamp::Timestamp;
 
-// Writes what an accepted frame call brings: the new state and the answer.
+// Writes the result of an accepted frame call: the new state and the answer.
 fn write_done(state: &mut [u64; 288], answer: &mut [u64; 8], a: Answer)
     ensures { λ _. ⌜ (now (state .exit) ≡ adaptiveWords (a .detector)) × (adaptiveOf (now (state .exit)) ≡ a .detector) ⌝ }
     ensures { λ _. ⌜ (now (answer .exit) ≡ answerWords (a .cut) (a .score) (a .components)) × ReadAs (a .cut) (a .score) (a .components) (now (answer .exit)) ⌝ }

@@ -10,10 +10,11 @@ use Rattle.adaptive.specs.Options.{options}
 use Rattle.words.specs.Choices.{flagWord, flagOf, kernelTag, kernelWord, kernelOf, componentsOf}
 use Rattle.words.specs.Stream.{wordAt}
 
--- the letters MWADAP01
+-- the version of the record, which is the letters MWADAP01
 abbrev pub adaptiveVersion : ℕ
 adaptiveVersion = 0x4d57414441503031
 
+-- the words of the settings: version, threshold, minimum, window, `min_content_val`, four weights, tag and size of the kernel, `initial_cut`
 unfoldable pub optionsWords : Options → List ℕ
 optionsWords o =
     let weights : Components = o .weights in
@@ -31,10 +32,11 @@ optionsWords o =
     flagWord (o .«initial_cut») ∷
     []
 
--- the version is this one, tags are 0 or 1, window and k have 32 bits
+-- whether twelve words are those of settings: the version is this one, tags are 0 or 1, window and k have 32 bits
 unfoldable pub isOptions : List ℕ → Bool
 isOptions w = eqb (wordAt w 0) adaptiveVersion && ltb (wordAt w 3) 4294967296 && leb (wordAt w 9) 1 && ltb (wordAt w 10) 4294967296 && leb (wordAt w 11) 1
 
+-- the settings that twelve words are read as
 unfoldable pub optionsOf : List ℕ → Options
 optionsOf w =
     options

@@ -1,4 +1,4 @@
--- The adaptive detector's record in 288 words: settings, stream, window, the window's stamps and its scores.
+-- The adaptive detector's record in 288 words: settings, stream, window, the window's stamps and its scores (RULES 15.1, 15.4).
 use mathlib.Core.Bool.{Bool, cond, _&&_}
 use mathlib.Core.List.{List, _++_}
 use Prim.Native.Nat.{ℕ}
@@ -10,12 +10,13 @@ use Rattle.words.specs.Stream.{streamWords, isStream, streamOf}
 use Rattle.adaptive_words.specs.Options.{optionsWords, isOptions, optionsOf}
 use Rattle.adaptive_words.specs.Window.{windowWords, isWindow, windowOf, stampsWords, stampsOf, scoresWords, scoresOf}
 
+-- the words of the adaptive detector's record
 unfoldable pub adaptiveWords : Detector → List ℕ
 adaptiveWords d =
     optionsWords (d .options)
     ++ (streamWords (d .stream) ++ (windowWords (d .window) ++ (stampsWords (d .window .stamps) ++ scoresWords (d .window .scores))))
 
--- the version is this one, tags are 0 or 1, and fields of 32 bits have 32 bits
+-- whether words are a record: the version is this one, tags are 0 or 1, and fields of 32 bits have 32 bits
 unfoldable pub isAdaptive : List ℕ → Bool
 isAdaptive w = isOptions (take 12 w) && isStream (take 10 (drop 12 w)) && isWindow (take 8 (drop 22 w))
 

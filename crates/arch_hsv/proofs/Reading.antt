@@ -1,5 +1,6 @@
--- What the definitions of specs/Hsv.antt say: `rounded` is the nearest, halves up; `delta` and each branch of `degrees` are document 01's
--- in whole numbers, so that no subtraction there is cut short at 0; hue is at most 179, and saturation at most 255. Assumes nothing.
+-- What the definitions of specs/Hsv.antt say: `rounded` is the nearest, halves up; `delta` and each branch of `degrees` are those of
+-- RULES 3.1 and 3.3 in whole numbers, so that no subtraction there is cut off at 0; hue is at most 179, and saturation at most 255.
+-- Assumes nothing.
 use mathlib.Core.Path.{_≡_}
 use mathlib.Core.Bool.{Bool, true, false, cond}
 use Prim.Native.Nat.{ℕ, _+_, _-_, _*_, _/_, _≤_, _<_, min, max}

@@ -1,4 +1,4 @@
--- What the private functions have of a pixel, and of up to 256 at a time, before hue and saturation are worked out.
+-- What the private functions of the conversion know of a pixel, and of up to 256 at a time, before they work out hue and saturation.
 use mathlib.Core.Path.{_≡_}
 use mathlib.Core.List.{List}
 use Prim.Native.Nat.{ℕ, zero, suc, _+_, _*_, _/_, _≤_, _<_, min}

@@ -1,4 +1,5 @@
--- Document 01, `mean_abs_diff`: whole sum over n, one f64 division; 0.0 when n = 0.
+-- The mean difference of two planes (`mean_abs_diff`): the whole sum of their absolute differences, divided by the number of pixels in one
+-- f64 division; 0.0 when there are no pixels (RULES 4.1, 4.2).
 use mathlib.Core.Bool.{cond}
 use mathlib.Core.List.{List}
 use Prim.Native.Nat.{ℕ, _+_, _-_}
@@ -16,7 +17,7 @@ dist a b = (a - b) + (b - a)
 unfoldable pub sumAbsDiff : List ℕ → List ℕ → ℕ
 sumAbsDiff s t = sum (length s) (λ i. dist (getD s i 0) (getD t i 0))
 
--- a whole sum over a count of pixels
+-- a whole sum divided by a count of pixels; 0.0 for no pixels
 unfoldable pub meanOf : ℕ → ℕ → Float
 meanOf total n = cond (eqb n 0) (float 0) (div binary64 (float total) (float n))
 

@@ -1,4 +1,4 @@
--- Document 01: a plane's row is read as the part that starts at row × stride.
+-- The rows of a plane without their padding. Row y of a plane is the part that starts at byte y × stride, and is read there (RULES 2.3).
 use mathlib.Core.List.{List}
 use Prim.Native.Nat.{ℕ, _+_, _*_}
 use lib.ListN.{getD}

@@ -1,4 +1,4 @@
--- Document 01: "An edge byte is 255 exactly where the k × k window, clipped to the frame, holds a strong pixel (van Herk), else 0."
+-- An edge byte is 255 exactly where the k × k window, clipped to the frame, holds a strong pixel, otherwise 0 (RULES 5.12).
 use mathlib.Core.Path.{_≡_, _∙_}
 use mathlib.Core.List.{List}
 use Prim.Native.Nat.{ℕ, _+_, _*_, _/_, _%_, _≤_, _<_}

@@ -14,7 +14,7 @@ fn clear(plane: &mut [u8])
     }
 }
 
-// The strong pixels, 255 each. Of what mag then holds nothing is promised.
+// The strong pixels, 255 each. What mag holds afterwards is not promised.
 fn strong_plane(luma: &[u8], mag: &mut [i32], edges: &mut [u8], w: usize, h: usize)
     requires { ⌜ length (now luma) ≡ w * h ⌝ }
     requires { ⌜ (length (now mag) ≡ w * h) × (length (now edges) ≡ w * h) ⌝ }
@@ -28,7 +28,7 @@ fn strong_plane(luma: &[u8], mag: &mut [i32], edges: &mut [u8], w: usize, h: usi
     canny_hysteresis::hysteresis(edges, w, h);
 }
 
-// The edge plane, with a window of k × k. mag is scratch: as the function returns it has its length, and any content is right.
+// The edge plane, with a window of k × k. mag is scratch: it keeps its length, and its contents afterwards are left open.
 pub fn edge_plane(luma: &[u8], mag: &mut [i32], edges: &mut [u8], w: usize, h: usize, k: u32)
     requires { ⌜ (w ≤ 4096) × (h ≤ 4096) ⌝ }
     requires { ⌜ length (now luma) ≡ w * h ⌝ }

@@ -1,4 +1,4 @@
--- The d of `autoKernelSize` is the greatest, in document 01's words, and a d that nothing greater passes is it.
+-- The d of `autoKernelSize` is the greatest that RULES 5.13 asks for, and a d that passes where nothing greater does is that one.
 use mathlib.Core.Path.{_≡_, refl}
 use mathlib.Core.Bool.{Bool, true, false, cond}
 use mathlib.Core.Logic.{_⊎_, inl, inr}
@@ -41,7 +41,7 @@ small n (suc e) (inr r) =
     let m : (96 * suc e) * 96 ≤ reach (suc e) * reach (suc e) = mul-le-mul (omega arith) (omega arith) in
     le-div-iff-mul-le {k = 9216} {x = suc e} {y = n} (omega arith) .1 (omega arith)
 
--- document 01: d is the greatest whole number with d = 0 or (96 × (2d - 1))² ≤ n
+-- d is the greatest whole number with d = 0 or (96 × (2d - 1))² ≤ n
 pub record Greatest (n d : ℕ) : Type 0 where
   pub passes : Passes n d
   pub all : (e : ℕ) → Passes n e → e ≤ d

@@ -1,4 +1,5 @@
--- Document 01: "Median m: the value at place floor(n / 2), from 0, of the sorted luma; 255 for an empty plane."
+-- The median of a luma plane of n bytes: the value at place floor(n / 2), counted from 0, of the sorted bytes; 255 for an empty plane
+-- (RULES 5.3).
 use mathlib.Core.Bool.{Bool, cond}
 use mathlib.Core.List.{List, [], _∷_}
 use Prim.Native.Nat.{ℕ, _+_, _/_}
@@ -15,7 +16,7 @@ unfoldable pub sort : List ℕ → List ℕ
 sort [] = []
 sort (b ∷ bs) = insert b (sort bs)
 
--- the element at place floor(n / 2) of the sorted luma; 255 where there is none
+-- the median: the element at place floor(n / 2) of the sorted luma; 255 where there is none
 unfoldable pub medianOf : List ℕ → ℕ
 medianOf luma = getD (sort luma) (length luma / 2) 255
 

@@ -20,6 +20,7 @@ fn histogram(buf: &[u8]) -> [usize; 256]
     hist
 }
 
+// The value at place floor(n / 2) of the sorted bytes, counted from 0; 255 for none (RULES 5.3).
 pub fn median_u8(buf: &[u8]) -> u8
     ensures { λ r. ⌜ r ≡ medianOf (now (buf .entry)) ⌝ }
 {
@@ -37,6 +38,7 @@ pub fn median_u8(buf: &[u8]) -> u8
     255
 }
 
+// The low mark of a median m: 0 for m = 0, otherwise floor((2m - 1) / 3) (RULES 5.4).
 pub fn low_threshold(median: u8) -> u8
     ensures { λ r. ⌜ r ≡ lowMark median ⌝ }
 {
@@ -46,6 +48,7 @@ pub fn low_threshold(median: u8) -> u8
     ((2 * (median as u32) - 1) / 3) as u8
 }
 
+// The high mark of a median m: min(255, floor(4m / 3)) (RULES 5.5).
 pub fn high_threshold(median: u8) -> u8
     ensures { λ r. ⌜ r ≡ highMark median ⌝ }
 {
@@ -56,6 +59,7 @@ pub fn high_threshold(median: u8) -> u8
     255
 }
 
+// The side k of the window for a frame of this size, where no k is set (RULES 5.13).
 pub fn auto_kernel_size(width: u32, height: u32) -> u32
     ensures { λ r. ⌜ r ≡ autoKernelSize width height ⌝ }
 {

@@ -22,7 +22,7 @@ fn bit(b: bool) -> usize
     b as usize
 }
 
-// Whether place i keeps against the places s on and s back.
+// Whether the pixel at place i stays, against the places s further on and s back.
 fn keeps_by(mag: &[i32], i: usize, s: usize) -> bool
     requires { ⌜ (s ≤ i) × (i + s < length (now mag)) ⌝ }
     ensures { λ r. ⌜ r ≡ staysBy (now (mag .entry)) i s ⌝ }
@@ -40,8 +40,8 @@ fn pick(c: bool, x: bool, y: bool) -> bool
     y
 }
 
-// Whether place i keeps along its direction. All four are tried, the neighbours being 1, w + 1, w and w - 1 places on and back, and one
-// is picked: so a loop over places has the same reads at each, and the compiler works several at a time.
+// Whether the pixel at place i stays along its direction. All four are tried, the neighbours being 1, w + 1, w and w - 1 places on and
+// back, and one is picked: so a loop over places has the same reads at each, and the compiler works several at a time.
 fn keeps_along(mag: &[i32], w: usize, dir: u8, i: usize) -> bool
     requires { ⌜ (0 < w) × ((w + 1 ≤ i) × (i + (w + 1) < length (now mag))) ⌝ }
     ensures { λ r. ⌜ r ≡ staysAlong (now (mag .entry)) w dir i ⌝ }

@@ -1,4 +1,4 @@
--- The content detector at the station's border: its record in words, what its calls bring, and settings by numbers.
+-- The content detector as the station calls it: its record in words, the results of its calls, and settings by numbers.
 use mathlib.Core.Bool.{cond, not}
 use mathlib.Core.List.{[], _∷_}
 use Prim.Native.Nat.{ℕ}
@@ -14,9 +14,11 @@ use Rattle.content_words.specs.Record.{contentWords, contentOf}
 use Rattle.station_answer.specs.Settings.{noMode}
 use Rattle.station_answer.specs.Contracts.{Layout, Brought, Started}
 
+-- the record of the content detector in words
 abbrev pub contentLayout : Layout Detector
 contentLayout = record { wordsOf = contentWords; heldBy = contentOf }
 
+-- the result of a call, by the outcome that the detector's definition gives
 abbrev pub broughtBy : Outcome → Brought Detector
 broughtBy o =
     record {
@@ -28,17 +30,19 @@ broughtBy o =
       store = o .store;
     }
 
--- what a call of the content detector brings
+-- the result of a call of the content detector
 abbrev pub contentCall : Detector → Call → Brought Detector
 contentCall d c = broughtBy (called d c)
 
+-- what a settings call returns, by what the detector's definition gives
 abbrev pub startedBy : Settled → Started Detector
 startedBy x = record { number = x .number; detector = x .detector }
 
--- the number of settings whose mode is given by a number: 6 to 9, then 15 for a number that names no mode
+-- the number that settings are refused by, or 0, where the mode is given by a number: 6 to 9, then 15 for a number that does not name a mode
+-- (RULES 15.5)
 abbrev pub settingsNumber : (mode : ℕ) → Options → ℕ
 settingsNumber mode o = firstThat ((not (eqb (optionsRefusal o) 0), optionsRefusal o) ∷ (noMode mode, 15) ∷ [])
 
--- what they return: a fresh state with these settings, or with the defaults where they are refused
+-- what such a settings call returns: a fresh state with these settings, or with the defaults where they are refused
 unfoldable pub settledBy : (mode : ℕ) → Options → Settled
 settledBy mode o = record { number = settingsNumber mode o; detector = fresh (cond (eqb (settingsNumber mode o) 0) o defaults) }

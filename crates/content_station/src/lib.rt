@@ -17,7 +17,7 @@ use content::Settled;
 use score::Components;
 use timestamp::Timestamp;
 
-// Writes what an accepted frame call brings: the new state and the answer.
+// Writes the result of an accepted frame call: the new state and the answer.
 fn write_done(state: &mut [u64; 27], answer: &mut [u64; 8], a: Answer)
     ensures { λ _. ⌜ (now (state .exit) ≡ contentWords (a .detector)) × (contentOf (now (state .exit)) ≡ a .detector) ⌝ }
     ensures { λ _. ⌜ (now (answer .exit) ≡ answerWords (a .cut) (a .score) (a .components)) × ReadAs (a .cut) (a .score) (a .components) (now (answer .exit)) ⌝ }
@@ -170,7 +170,7 @@ pub fn new_default(state: &mut [u64; 27]) -> u32
     write_settled(state, content::try_new(Options::new()))
 }
 
-// Settings by numbers. A mode that is neither 0 nor 1 stands here for Merge, and is refused by `settled_by`.
+// Settings by numbers. A mode that is neither 0 nor 1 counts as Merge here, and is refused by `settled_by`.
 fn options_by(
     threshold: f64,
     min_duration: u64,
@@ -194,7 +194,7 @@ fn options_by(
     }
 }
 
-// What settings return whose mode is given by this number: 6 to 9, then 15 for a number that names no mode.
+// What a settings call returns whose mode is given by this number: refused by 6 to 9, then by 15 for a number that does not name a mode.
 fn settled_by(filter_mode: u32, o: Options) -> Settled
     ensures { λ r. ⌜ r ≡ settledBy «filter_mode» o ⌝ }
 {

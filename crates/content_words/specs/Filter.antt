@@ -7,6 +7,8 @@ use Rattle.filter.specs.declared.Filter.{Filter}
 use Rattle.words.specs.Choices.{flagWord, flagOf, stampTag, stampWord, stampOf}
 use Rattle.words.specs.Stream.{wordAt}
 
+-- the words of a filter: tag and stamp of the last cut (Suppress) or of the last frame above (Merge), or of the seed; whether merging is
+-- enabled; whether a merge is going on; tag and stamp of the last merge's start
 unfoldable pub filterWords : Filter → List ℕ
 filterWords f =
     stampTag (f .«last_above») ∷
@@ -17,10 +19,11 @@ filterWords f =
     stampWord (f .«merge_start») ∷
     []
 
--- tags are 0 or 1
+-- whether six words are those of a filter: tags are 0 or 1
 unfoldable pub isFilter : List ℕ → Bool
 isFilter w = leb (wordAt w 0) 1 && leb (wordAt w 2) 1 && leb (wordAt w 3) 1 && leb (wordAt w 4) 1
 
+-- the filter that six words are read as
 unfoldable pub filterOf : List ℕ → Filter
 filterOf w =
     record {

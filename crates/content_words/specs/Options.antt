@@ -12,21 +12,25 @@ use Rattle.content.specs.Options.{options}
 use Rattle.words.specs.Choices.{flagWord, flagOf, kernelTag, kernelWord, kernelOf, componentsOf}
 use Rattle.words.specs.Stream.{wordAt}
 
--- the letters MWCONT01
+-- the version of the record, which is the letters MWCONT01
 abbrev pub contentVersion : ℕ
 contentVersion = 0x4d57434f4e543031
 
+-- the word of a filter mode: 0 for Merge, 1 for Suppress
 abbrev pub modeWord : FilterMode → ℕ
 modeWord Merge = 0
 modeWord Suppress = 1
 
+-- Suppress where this holds, otherwise Merge
 abbrev pub modeIf : Bool → FilterMode
 modeIf true = Suppress
 modeIf false = Merge
 
+-- the filter mode that a word is read as
 abbrev pub modeOf : ℕ → FilterMode
 modeOf w = modeIf (flagOf w)
 
+-- the words of the settings: version, threshold, minimum, four weights, filter mode, tag and size of the kernel, `initial_cut`
 unfoldable pub optionsWords : Options → List ℕ
 optionsWords o =
     let weights : Components = o .weights in
@@ -43,10 +47,11 @@ optionsWords o =
     flagWord (o .«initial_cut») ∷
     []
 
--- the version is this one, tags are 0 or 1, k has 32 bits
+-- whether eleven words are those of settings: the version is this one, tags are 0 or 1, k has 32 bits
 unfoldable pub isOptions : List ℕ → Bool
 isOptions w = eqb (wordAt w 0) contentVersion && leb (wordAt w 7) 1 && leb (wordAt w 8) 1 && ltb (wordAt w 9) 4294967296 && leb (wordAt w 10) 1
 
+-- the settings that eleven words are read as
 unfoldable pub optionsOf : List ℕ → Options
 optionsOf w =
     options

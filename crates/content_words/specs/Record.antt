@@ -1,4 +1,4 @@
--- The content detector's record in 27 words: settings, stream, filter.
+-- The content detector's record in 27 words: settings, stream, filter (RULES 15.1, 15.4).
 use mathlib.Core.Bool.{Bool, cond, _&&_}
 use mathlib.Core.List.{List, _++_}
 use Prim.Native.Nat.{ℕ}
@@ -10,10 +10,11 @@ use Rattle.words.specs.Stream.{streamWords, isStream, streamOf}
 use Rattle.content_words.specs.Options.{optionsWords, isOptions, optionsOf}
 use Rattle.content_words.specs.Filter.{filterWords, isFilter, filterOf}
 
+-- the words of the content detector's record
 unfoldable pub contentWords : Detector → List ℕ
 contentWords d = optionsWords (d .options) ++ (streamWords (d .stream) ++ filterWords (d .filter))
 
--- the version is this one, tags are 0 or 1, and fields of 32 bits have 32 bits
+-- whether words are a record: the version is this one, tags are 0 or 1, and fields of 32 bits have 32 bits
 unfoldable pub isContent : List ℕ → Bool
 isContent w = isOptions (take 11 w) && isStream (take 10 (drop 11 w)) && isFilter (take 6 (drop 21 w))
 

@@ -1,4 +1,5 @@
--- The dilated plane by its window as a set of places: at each place the largest byte of the window, and on bytes 0 and 255 the edge byte of document 01.
+-- The dilated plane by its window as a set of places: at each place the largest byte of the window, and on bytes 0 and 255 the edge byte of
+-- RULES 5.12.
 use mathlib.Core.Path.{_≡_, sym, _∙_}
 use mathlib.Core.Logic.{_⊎_, inl, inr}
 use mathlib.Core.List.{List}
@@ -72,7 +73,7 @@ module _ (s : List ℕ) (w h k x y : ℕ) (a : x < w) (b : y < h) where
         byte = r .largest ∙ c .largest ∙ sym at-place;
       }
 
-  -- document 01: an edge byte is 255 exactly where the k × k window, clipped to the frame, holds a strong pixel, else 0
+  -- an edge byte is 255 exactly where the k × k window, clipped to the frame, holds a strong pixel, otherwise 0
   pub edge-byte : length s ≡ w * h → Marked s → EdgeByte s w h k x y (getD (dilated s w h k) (y * w + x) 0)
   edge-byte size M = record {
     where-strong = λ H. strong H bytes;

@@ -1,4 +1,4 @@
--- Document 01, "`src/content.rs`", edges: the k × k window, clipped to the frame, and the largest byte in it.
+-- Dilation: the k × k window about each place, clipped to the frame, and the largest byte in it (RULES 5.12).
 use mathlib.Core.Path.{_≡_}
 use mathlib.Core.Logic.{_⊎_}
 use mathlib.Core.List.{List}
@@ -35,7 +35,8 @@ pub record Holds (s : List ℕ) (w h k x y b : ℕ) : Type 0 where
 pub record Marked (s : List ℕ) : Type 0 where
   pub byte : (i : ℕ) → i < length s → (getD s i 0 ≡ 0) ⊎ (getD s i 0 ≡ 255)
 
--- "255 exactly where the k × k window, clipped to the frame, holds a strong pixel, else 0": e is that byte for (x, y), the strong pixels of s being 255
+-- e is the edge byte of (x, y), where the strong pixels of s are 255: it is 255 exactly where the k × k window about (x, y), clipped to the
+-- frame, holds a strong pixel, otherwise 0 (RULES 5.12)
 pub record EdgeByte (s : List ℕ) (w h k x y e : ℕ) : Type 0 where
   pub where-strong : Holds s w h k x y 255 → e ≡ 255
   pub only-where : e ≡ 255 → Holds s w h k x y 255

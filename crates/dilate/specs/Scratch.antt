@@ -44,10 +44,11 @@ pub record LinesDilated (old : List ℕ) (first step across count half m n : ℕ
   pub on : (i j : ℕ) → i < n → j < m → getD new (first + i * step + j * across) 0 ≡ around count half i (lineOf old first step across j)
   pub off : (p : ℕ) → ((i j : ℕ) → i < n → j < m → p ≡ first + i * step + j * across → ⊥) → getD new p 0 ≡ getD old p 0
 
--- with blocks of b places: the largest from the start of i's block up to i, and from i up to the block's end or n
+-- with blocks of b places: the largest from the start of i's block up to i
 unfoldable pub prefix : (ℕ → ℕ) → ℕ → ℕ → ℕ
 prefix g b i = maxIn (i / b * b) (i + 1) g
 
+-- the largest from i up to the end of its block or to n, whichever comes first
 unfoldable pub suffix : (ℕ → ℕ) → ℕ → ℕ → ℕ → ℕ
 suffix g b n i = maxIn i (min n (i / b * b + b)) g
 
@@ -55,10 +56,11 @@ suffix g b n i = maxIn i (min n (i / b * b + b)) g
 unfoldable pub keptOf : ℕ → ℕ → ℕ
 keptOf m t = cond (eqb t 0) 0 m
 
--- the place in a block of b after t, and before it
+-- the place in a block of b after t; after the last comes 0
 unfoldable pub nextOf : ℕ → ℕ → ℕ
 nextOf b t = cond (eqb (t + 1) b) 0 (t + 1)
 
+-- the place in a block of b before t; before 0 comes the last
 unfoldable pub prevOf : ℕ → ℕ → ℕ
 prevOf b t = cond (eqb t 0) (b - 1) (t - 1)
 

@@ -1,33 +1,33 @@
--- Document 01, `src/frame.rs` and refusals 1 to 5. "Height × stride bytes are needed, the last row's padding included. Zero width
--- or height is accepted."
+-- The checks of a frame, by the refusals 1 to 5 (RULES 2.4 to 2.6). A plane needs height × stride bytes, the padding of the last row
+-- included. A width or a height of 0 is accepted.
 use mathlib.Core.Bool.{Bool, _||_}
 use mathlib.Core.List.{[], _∷_}
 use Prim.Native.Nat.{ℕ, _*_}
 use lib.Dec.{ltb}
 use Rattle.frame.specs.Refusal.{firstThat}
 
--- 1: width or height over 4,096
+-- refusal 1: the width or the height is over 4,096
 abbrev pub tooLarge : ℕ → ℕ → Bool
 tooLarge width height = ltb 4096 width || ltb 4096 height
 
--- a plane of that many bytes is too short
+-- a plane of that many bytes is shorter than height × stride
 abbrev pub tooShort : ℕ → ℕ → ℕ → Bool
 tooShort bytes height stride = ltb bytes (height * stride)
 
--- refusals 1 to 3 of a plane whose rows are `row` bytes long
+-- refusals 1 to 3 of a plane whose rows are `row` bytes long; 0 where it passes
 unfoldable pub planeRefusal : ℕ → ℕ → ℕ → ℕ → ℕ → ℕ
 planeRefusal row bytes width height stride =
     firstThat ((tooLarge width height, 1) ∷ (ltb stride row, 2) ∷ (tooShort bytes height stride, 3) ∷ [])
 
--- a luma frame, by the length of its plane
+-- the refusal of a luma frame, or 0, by the length of its plane
 unfoldable pub lumaRefusal : ℕ → ℕ → ℕ → ℕ → ℕ
 lumaRefusal bytes width height stride = planeRefusal width bytes width height stride
 
--- a BGR frame, by the length of its packed pixels: 3 bytes a pixel
+-- the refusal of a BGR frame, or 0, by the length of its packed pixels, of 3 bytes each
 unfoldable pub bgrRefusal : ℕ → ℕ → ℕ → ℕ → ℕ
 bgrRefusal bytes width height stride = planeRefusal (3 * width) bytes width height stride
 
--- an HSV frame, by the lengths of its hue, saturation and value planes
+-- the refusal of an HSV frame, or 0, by the lengths of its hue, saturation and value planes
 unfoldable pub hsvRefusal : ℕ → ℕ → ℕ → ℕ → ℕ → ℕ → ℕ
 hsvRefusal hue saturation value width height stride =
     firstThat

@@ -1,5 +1,5 @@
-// The checks of luma, BGR and HSV frames: refusals 1 to 5 of document 01, the first whose condition holds, and 0 for a
-// frame that passes. Any sides, strides and lengths are taken.
+// The checks of luma, BGR and HSV frames: the first of the refusals 1 to 5 whose condition holds, and 0 for a frame that
+// passes (RULES 2.6). Any sides, strides and lengths are taken.
 ghost use mathlib.Core.Path.{_≡_};
 ghost use lib.ListN.{length};
 ghost use Rattle.frame.specs.Checks.{planeRefusal, lumaRefusal, bgrRefusal, hsvRefusal};

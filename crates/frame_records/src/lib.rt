@@ -1,5 +1,5 @@
 // Frames as records that hold the caller's planes. A constructor checks by 1 to 5, and a reader shows a field. The functions
-// that work take the planes as plain parameters: a frame call checks again, so it trusts no record.
+// that work take the planes as plain parameters: a frame call checks again, so it does not trust a record.
 ghost use mathlib.Core.Path.{_≡_};
 ghost use Rattle.frame_records.specs.Frames.{lumaFrame, rgbFrame, hsvFrame};
 use timestamp::Timestamp;
@@ -33,7 +33,7 @@ pub struct HsvFrame<'a> {
     pub timestamp: Timestamp,
 }
 
-// What stands for `Result` of a frame: the number of its refusal, or 0, and the frame as it was given.
+// In place of a `Result` of a frame: the number of its refusal, or 0, and the frame as it was given.
 pub struct LumaFrameResult<'a> {
     pub number: u32,
     pub frame: LumaFrame<'a>,
@@ -49,7 +49,7 @@ pub struct HsvFrameResult<'a> {
     pub frame: HsvFrame<'a>,
 }
 
-// Bytes of a packed pixel, by the constant that is named as the Rust's.
+// Bytes of a packed pixel: the constant has the name that it has in the Rust.
 pub fn bytes_per_pixel() -> u32
     ensures { λ r. ⌜ r ≡ 3 ⌝ }
 {

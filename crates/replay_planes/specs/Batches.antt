@@ -10,7 +10,7 @@ use Rattle.replay_planes.specs.declared.Stage.{Stage}
 use Rattle.replay_planes.specs.declared.Stage.the-variants.{CopyPlane, BgrToHsvPlanes, MeanAbsDiff, Sobel, Frame}
 use Rattle.replay_planes.specs.Stages.{copied, converted, differed, sobeled, answered, checked}
 
--- one height and kind
+-- a batch after one more height and kind of the stage
 unfoldable pub oneOf : Stage → Run → ℕ → ℕ → ℕ → Run
 oneOf CopyPlane run w h kind = copied run ((w + kind) * h) w h (w + kind) kind
 oneOf BgrToHsvPlanes run w h kind = converted run ((3 * w + kind) * h) w h (3 * w + kind) kind
@@ -27,7 +27,7 @@ batchOf stage w (suc n) = oneOf stage (batchOf stage w n) w (n / 4) (n % 4)
 abbrev pub sideOf : ℕ → ℕ
 sideOf i = getD (0 ∷ 1 ∷ 4095 ∷ 4096 ∷ 4097 ∷ 1431655766 ∷ 4294967295 ∷ []) i 0
 
--- the three checks of a frame with no bytes
+-- the digest with the answers of the three checks of a frame with no bytes
 unfoldable pub noBytes : Digest → ℕ → ℕ → ℕ → Digest
 noBytes d w h stride =
     answered

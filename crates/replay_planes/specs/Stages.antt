@@ -73,10 +73,11 @@ hsvShort d full short w h stride =
     (hsvRefusal full short full w h stride))
     (hsvRefusal full full short w h stride)
 
+-- `check_hsv` with no plane short, then with hue, saturation and value a byte short, one after the other; 0 - 1 is 0
 abbrev pub hsvAround : Digest → ℕ → ℕ → ℕ → Digest
 hsvAround d w h stride = hsvShort d (stride * h) (stride * h - 1) w h stride
 
--- `frame`: luma and HSV at the stride and one too short, then BGR
+-- the stage `frame`: luma and HSV at the stride w + kind and at one below w, then BGR at 3w + kind and at one below 3w
 unfoldable pub checked : Run → ℕ → ℕ → ℕ → Run
 checked run w h kind =
     let wide = hsvAround (lumaAround (run .digest) w h (w + kind)) w h (w + kind) in

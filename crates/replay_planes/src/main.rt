@@ -65,7 +65,7 @@ fn lines(name: &[u8], stage: Stage) {
     }
 }
 
-// Document 01's sample: 3 x 2, stride 4.
+// The sample of RULES 13.2: a 3 x 2 luma frame with stride 4, of so many bytes.
 fn sample(bytes: usize)
     requires { ⌜ bytes ≤ 8 ⌝ }
 {

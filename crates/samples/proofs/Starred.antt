@@ -1,4 +1,4 @@
--- The starred rows, as one list, by computation.
+-- The samples of RULES 13.1, as one list, by computation.
 use mathlib.Core.Path.{_≡_, refl}
 use Rattle.arch_hsv.specs.Hsv.{rounded, value, delta, saturation, degrees, hue}
 use Rattle.canny_marks.specs.Marks.{lowMark, highMark}

@@ -1,4 +1,4 @@
--- Document 01, "Sample strip": what the definitions give at each starred row, and what the document prints there.
+-- The samples of RULES 13.1: what the definitions give for each, and what it must be.
 use mathlib.Core.Bool.{true}
 use mathlib.Core.List.{List, [], _∷_, map}
 use Prim.Native.Nat.{ℕ, suc}
@@ -22,7 +22,7 @@ hsv b g r = hue b g r ∷ saturation b g r ∷ value b g r ∷ []
 abbrev pub marks : ℕ → List ℕ
 marks m = lowMark m ∷ highMark m ∷ []
 
--- k of each width and height of the row
+-- k of each of the three sizes
 abbrev pub kernels : List ℕ
 kernels = autoKernelSize 287 289 ∷ autoKernelSize 288 288 ∷ autoKernelSize 1920 1080 ∷ []
 
@@ -30,7 +30,7 @@ kernels = autoKernelSize 287 289 ∷ autoKernelSize 288 288 ∷ autoKernelSize 1
 abbrev pub scored : ℕ → ℕ → Call
 scored stamp score = frame 1 1 (record { stamp = record { micros = pos stamp }; above = leb 27 score })
 
--- a frame without a score, then the scored frames of the row
+-- a first frame, which has no score, then the five scored frames of the sample
 abbrev pub strip : List Call
 strip = scored 0 0 ∷ scored 400000 30 ∷ scored 900000 30 ∷ scored 1400000 30 ∷ scored 2400000 30 ∷ scored 3400000 5 ∷ []
 
@@ -40,7 +40,7 @@ cutsFrom n [] = []
 cutsFrom n (None ∷ rs) = cutsFrom (suc n) rs
 cutsFrom n (At t ∷ rs) = pos n ∷ t .micros ∷ cutsFrom (suc n) rs
 
--- minimum 1,000,000, `initial_cut`
+-- the cuts of these frames in this mode, with a minimum of 1,000,000 and `initial_cut` on
 abbrev pub filtered : FilterMode → List ℤ
 filtered mode = cutsFrom 0 (answers (run (record { «filter_mode» = mode; «min_duration» = 1000000; «initial_cut» = true }) strip))
 
@@ -48,6 +48,7 @@ filtered mode = cutsFrom 0 (answers (run (record { «filter_mode» = mode; «min
 abbrev pub row : List ℕ → List ℤ
 row ns = map pos ns
 
+-- what the definitions give: five pixels, four medians, three sizes, and the frames in Suppress and in Merge
 abbrev pub given : List (List ℤ)
 given =
     row (hsv 0 0 255)
@@ -64,7 +65,7 @@ given =
     ∷ filtered Merge
     ∷ []
 
--- call 5 is the frame at 3400000
+-- what it must be, row by row. Call 5 is the frame at 3400000
 abbrev pub printed : List (List ℤ)
 printed =
     row (0 ∷ 255 ∷ 255 ∷ [])

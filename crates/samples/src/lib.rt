@@ -1,1 +1,1 @@
-// No code: the starred sample rows of document 01, proved of the definitions.
+// No code: the samples of RULES 13.1, proved of the definitions.

@@ -1,6 +1,6 @@
 // The library that a station links: all that it calls, on numbers and lent memory alone. A slice passes as a pointer and then a length, an
-// array of fixed size as a pointer. No value is asked for: memory that is too short, and a state that is not a record, are refused by their
-// numbers. Of the pointers the header asks what no proof here speaks of: each is not NULL, is aligned, points to as much memory as its type
+// array of fixed size as a pointer. No value is required: memory that is too short, and a state that is not a record, are refused by their
+// numbers. Of the pointers the header requires what no proof here covers: each is not NULL, is aligned, points to as much memory as its type
 // or its length says, and nothing that is written overlaps anything else or is used by anybody else during the call.
 ghost use mathlib.Core.Path.{_≡_};
 ghost use Rattle.station_answer.specs.Sizes.{storeBytes, scratchBytes, magnitudesCount};
@@ -40,7 +40,7 @@ pub extern "C" fn mw_answer_words() -> u64
     8
 }
 
-// How many bytes the store of a frame of this size has; 0 of a size that every call refuses by 1.
+// How many bytes the store of a frame of this size has; 0 for a size that every call refuses by 1.
 #[no_mangle]
 pub extern "C" fn mw_store_bytes(width: u32, height: u32) -> u64
     ensures { λ r. ⌜ r ≡ storeBytes width height ⌝ }
@@ -48,7 +48,7 @@ pub extern "C" fn mw_store_bytes(width: u32, height: u32) -> u64
     station_answer::store_bytes(width, height)
 }
 
-// How many bytes the scratch of a frame of this size has; 0 of a size that every call refuses by 1.
+// How many bytes the scratch of a frame of this size has; 0 for a size that every call refuses by 1.
 #[no_mangle]
 pub extern "C" fn mw_scratch_bytes(width: u32, height: u32) -> u64
     ensures { λ r. ⌜ r ≡ scratchBytes width height ⌝ }
@@ -56,7 +56,7 @@ pub extern "C" fn mw_scratch_bytes(width: u32, height: u32) -> u64
     station_answer::scratch_bytes(width, height)
 }
 
-// How many numbers of 32 bits the magnitudes of a frame of this size are; 0 of a size that every call refuses by 1.
+// How many numbers of 32 bits the magnitudes of a frame of this size are; 0 for a size that every call refuses by 1.
 #[no_mangle]
 pub extern "C" fn mw_magnitudes(width: u32, height: u32) -> u64
     ensures { λ r. ⌜ r ≡ magnitudesCount width height ⌝ }

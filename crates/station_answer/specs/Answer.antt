@@ -1,4 +1,4 @@
--- The answer of a frame call in words, what they are read as, and what the readers show.
+-- The answer of a frame call in words, what they are read as, and what the readers show (RULES 15.3, 15.7 and 15.9).
 use mathlib.Core.Path.{_≡_}
 use mathlib.Core.Bool.{cond}
 use mathlib.Core.List.{List, [], _∷_}
@@ -15,6 +15,7 @@ use Rattle.score.specs.declared.MaybeScore.the-variants.{None, Some}
 use Rattle.words.specs.Choices.{stampTag, stampWord, stampOf, scoreTag, scoreWord, scoreOf, componentsOf}
 use Rattle.words.specs.Stream.{wordAt}
 
+-- the stamp of so many microseconds
 abbrev pub stamp : ℤ → Timestamp
 stamp z = record { micros = z }
 
@@ -31,13 +32,15 @@ answerWords cut score c =
     toBits binary64 (c .«delta_edges») ∷
     []
 
--- what the words of an answer are read as: the cut or none, the score or none, and the four components
+-- the cut that the words of an answer are read as, or none
 abbrev pub cutIn : List ℕ → MaybeTimestamp
 cutIn a = stampOf (wordAt a 0) (wordAt a 1)
 
+-- the score that the words of an answer are read as, or none
 abbrev pub scoreIn : List ℕ → MaybeScore
 scoreIn a = scoreOf (wordAt a 2) (wordAt a 3)
 
+-- the four components that the words of an answer are read as
 abbrev pub componentsIn : List ℕ → Components
 componentsIn a = componentsOf (wordAt a 4) (wordAt a 5) (wordAt a 6) (wordAt a 7)
 
@@ -47,16 +50,16 @@ pub record ReadAs (cut : MaybeTimestamp) (score : MaybeScore) (deltas : Componen
   pub the-score : scoreIn a ≡ score
   pub the-components : componentsIn a ≡ deltas
 
--- the new where the number is 0, and else the old: a refused call leaves everything as it was
+-- the new where the number is 0, otherwise the old: a refused call leaves everything as it was
 abbrev pub after : {A : Type 0} → ℕ → A → A → A
 after n new old = cond (eqb n 0) new old
 
--- a score, or 0.0
+-- the score, or 0.0 where there is none
 abbrev pub scoreShown : MaybeScore → Float
 scoreShown None = float 0
 scoreShown (Some x) = x
 
--- 0 is hue, 1 saturation, 2 luma, 3 edges; 0.0 at other places
+-- the component at a place: 0 is hue, 1 saturation, 2 luma, 3 edges; 0.0 at other places
 unfoldable pub componentAt : Components → ℕ → Float
 componentAt c place =
     cond (eqb place 0) (c .«delta_hue»)

@@ -1,5 +1,5 @@
--- What the station's calls promise, of either detector: `s` is the state's words at entry and `s′` at exit, `a` and `a′` the answer's,
--- `m` and `m′` the store, the scratch and the magnitudes, `r` the number that is returned.
+-- What the station's calls promise, for either detector (RULES 15.3, 15.5 and 15.6). `s` is the state's words at entry and `s′` at exit, `a`
+-- and `a′` the answer's, `m` and `m′` the store, the scratch and the magnitudes, `r` the number that is returned.
 use mathlib.Core.Path.{_≡_}
 use mathlib.Core.List.{List}
 use Prim.Native.Nat.{ℕ, _<_}
@@ -10,12 +10,12 @@ use Rattle.score.specs.declared.MaybeScore.{MaybeScore}
 use Rattle.content_calls.specs.Call.{Memory}
 use Rattle.station_answer.specs.Answer.{answerWords, ReadAs, after}
 
--- how a detector's record `D` stands in words, and the record that words hold
+-- a detector's record `D` in words: the words of a record, and the record that words hold
 pub record Layout (D : Type 0) : Type 0 where
   pub wordsOf : D → List ℕ
   pub heldBy : List ℕ → D
 
--- what a call brings by its definition: the refusal's number or 0, the detector after it (refused: as it was), the cut or none, the score
+-- the result of a call by its definition: the refusal's number or 0, the detector after it (refused: as it was), the cut or none, the score
 -- or none, the components, and the store after it (refused: as it was)
 pub record Brought (D : Type 0) : Type 0 where
   pub number : ℕ
@@ -27,15 +27,19 @@ pub record Brought (D : Type 0) : Type 0 where
 
 -- a frame call
 pub record FrameContract {D : Type 0} (l : Layout D) (b : Brought D) (r : ℕ) (s s′ a a′ : List ℕ) (m m′ : Memory) : Type 0 where
+  -- it returns the number that the definition gives
   pub number : r ≡ b .number
+  -- an accepted call writes the words of the new detector, and a refused one leaves the state's words as they were
   pub state : s′ ≡ after r (l .wordsOf (b .detector)) s
   -- accepted or refused, the words hold the detector that the definition gives
   pub read-back : l .heldBy s′ ≡ b .detector
+  -- an accepted call writes the words of the answer, and a refused one leaves them as they were
   pub answer : a′ ≡ after r (answerWords (b .cut) (b .score) (b .components)) a
   -- the answer of an accepted call is read as the cut, the score and the components that the definition gives
   pub answer-back : r ≡ 0 → ReadAs (b .cut) (b .score) (b .components) a′
+  -- the store is the one that the definition gives
   pub store : m′ .store ≡ b .store
-  -- an accepted call leaves the scratch and the magnitudes with any content: only their lengths are promised
+  -- the contents of the scratch and the magnitudes after an accepted call are left open: only their lengths are promised
   pub scratch-length : length (m′ .scratch) ≡ length (m .scratch)
   pub magnitudes-length : length (m′ .magnitudes) ≡ length (m .magnitudes)
   -- a refused call changes no lent byte
@@ -43,17 +47,23 @@ pub record FrameContract {D : Type 0} (l : Layout D) (b : Brought D) (r : ℕ) (
 
 -- `clear`, which is lent nothing but the state
 pub record ClearContract {D : Type 0} (l : Layout D) (b : Brought D) (r : ℕ) (s s′ : List ℕ) : Type 0 where
+  -- it returns the number that the definition gives
   pub number : r ≡ b .number
+  -- an accepted call writes the words of the new detector, and a refused one leaves the state's words as they were
   pub state : s′ ≡ after r (l .wordsOf (b .detector)) s
+  -- accepted or refused, the words hold the detector that the definition gives
   pub read-back : l .heldBy s′ ≡ b .detector
 
--- what settings return: the refusal's number or 0, and a fresh detector, of the defaults where they are refused
+-- what a settings call returns: the refusal's number or 0, and a fresh detector, which has the defaults where the settings are refused
 pub record Started (D : Type 0) : Type 0 where
   pub number : ℕ
   pub detector : D
 
 -- a settings call, accepted or refused
 pub record SettingsContract {D : Type 0} (l : Layout D) (x : Started D) (r : ℕ) (s′ : List ℕ) : Type 0 where
+  -- it returns the number that the definition gives
   pub number : r ≡ x .number
+  -- it writes the words of the fresh detector
   pub state : s′ ≡ l .wordsOf (x .detector)
+  -- these words hold that detector
   pub read-back : l .heldBy s′ ≡ x .detector

@@ -22,7 +22,7 @@ fn larger(a: u64, b: u64) -> u64
     a
 }
 
-// How many bytes the store of a frame of this size has; 0 of a size that every call refuses by 1.
+// How many bytes the store of a frame of this size has; 0 for a size that every call refuses by 1.
 pub fn store_bytes(width: u32, height: u32) -> u64
     ensures { λ r. ⌜ r ≡ storeBytes width height ⌝ }
 {
@@ -32,7 +32,7 @@ pub fn store_bytes(width: u32, height: u32) -> u64
     4 * (width as u64 * height as u64)
 }
 
-// How many bytes the scratch of a frame of this size has; 0 of a size that every call refuses by 1.
+// How many bytes the scratch of a frame of this size has; 0 for a size that every call refuses by 1.
 pub fn scratch_bytes(width: u32, height: u32) -> u64
     ensures { λ r. ⌜ r ≡ scratchBytes width height ⌝ }
 {
@@ -44,7 +44,7 @@ pub fn scratch_bytes(width: u32, height: u32) -> u64
     7 * (w * h) + 2 * larger(w, h)
 }
 
-// How many numbers of 32 bits the magnitudes of a frame of this size are; 0 of a size that every call refuses by 1.
+// How many numbers of 32 bits the magnitudes of a frame of this size are; 0 for a size that every call refuses by 1.
 pub fn magnitudes_count(width: u32, height: u32) -> u64
     ensures { λ r. ⌜ r ≡ magnitudesCount width height ⌝ }
 {

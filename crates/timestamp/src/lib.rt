@@ -43,6 +43,7 @@ fn lowered(n: u64) -> i64
     }
 }
 
+// The difference of the two stamps; none when ts is before the "earlier" one (RULES 1.2).
 pub fn duration_since(ts: Timestamp, earlier: Timestamp) -> Since
     ensures { λ r. ⌜ r ≡ durationSince ts earlier ⌝ }
 {
@@ -55,6 +56,7 @@ pub fn duration_since(ts: Timestamp, earlier: Timestamp) -> Since
     }
 }
 
+// The stamp less the duration; it stops at -2^63 (RULES 1.3).
 pub fn saturating_sub_duration(ts: Timestamp, d: u64) -> Timestamp
     ensures { λ r. ⌜ r ≡ saturatingSub ts d ⌝ }
 {

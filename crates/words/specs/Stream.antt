@@ -13,6 +13,7 @@ use Rattle.words.specs.Choices.{flagWord, flagOf, scoreTag, scoreWord, s
 abbrev pub wordAt : List ℕ → ℕ → ℕ
 wordAt w i = getD w i 0
 
+-- the words of a stream: whether there is a previous frame; tag and bits of the last score; tag and bits of the last components; width, height
 unfoldable pub streamWords : Stream → List ℕ
 streamWords s =
     let shown : Components = componentsShown (s .«last_components») in
@@ -28,10 +29,11 @@ streamWords s =
     s .height ∷
     []
 
--- tags are 0 or 1, sides have 32 bits
+-- whether ten words are those of a stream: tags are 0 or 1, sides have 32 bits
 unfoldable pub isStream : List ℕ → Bool
 isStream w = leb (wordAt w 0) 1 && leb (wordAt w 1) 1 && leb (wordAt w 3) 1 && ltb (wordAt w 8) 4294967296 && ltb (wordAt w 9) 4294967296
 
+-- the stream that ten words are read as
 unfoldable pub streamOf : List ℕ → Stream
 streamOf w =
     record {

@@ -1,5 +1,5 @@
-// Numbers, doubles, stamps and choices as words of 64 bits, and back: what the records that a station lends are written in. Nothing is
-// asked of a word: each is read as something. What is written reads back.
+// Numbers, doubles, stamps and values that may be missing as words of 64 bits, and back: what the records that a station lends are written
+// in. Nothing is required of a word: each is read as something. What is written reads back.
 ghost use mathlib.Core.Path.{_≡_};
 ghost use mathlib.Core.Bool.{true};
 ghost use Prim.Native.Nat.{_<_, _%_};
