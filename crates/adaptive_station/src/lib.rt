@@ -58,11 +58,11 @@ pub fn process_luma(
         magnitudes,
     );
     let luma_number = a.number;
-    if 0 < luma_number {
+    if luma_number == 0 {
+        write_done(state, answer, a);
         return luma_number;
     }
-    write_done(state, answer, a);
-    0
+    luma_number
 }
 
 // A BGR frame.
@@ -93,11 +93,11 @@ pub fn process_bgr(
         magnitudes,
     );
     let bgr_number = a.number;
-    if 0 < bgr_number {
+    if bgr_number == 0 {
+        write_done(state, answer, a);
         return bgr_number;
     }
-    write_done(state, answer, a);
-    0
+    bgr_number
 }
 
 // An HSV frame.
@@ -132,11 +132,11 @@ pub fn process_hsv(
         magnitudes,
     );
     let hsv_number = a.number;
-    if 0 < hsv_number {
+    if hsv_number == 0 {
+        write_done(state, answer, a);
         return hsv_number;
     }
-    write_done(state, answer, a);
-    0
+    hsv_number
 }
 
 // Forgets the stream: settings and size stay, all else is as at the start.
@@ -146,12 +146,12 @@ pub fn clear(state: &mut [u64; 288]) -> u32
     let d = adaptive_words::read(state);
     let a = adaptive::clear(d);
     let clear_number = a.number;
-    if 0 < clear_number {
+    if clear_number == 0 {
+        let cleared = a.detector;
+        adaptive_words::write(state, cleared);
         return clear_number;
     }
-    let cleared = a.detector;
-    adaptive_words::write(state, cleared);
-    0
+    clear_number
 }
 
 // Writes what a settings call returns, and gives its number.

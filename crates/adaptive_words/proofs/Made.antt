@@ -8,7 +8,8 @@ use borrow.Author.Tests.{le-leb, lt-ltb}
 use Rattle.window.specs.declared.Window.{Window}
 use Rattle.adaptive.specs.declared.Options.{Options}
 use Rattle.words.specs.Choices.{flagWord, flagOf, stampTag, stampWord, stampOf, scoreTag, scoreWord, scoreOf, kernelTag, kernelWord, kernelOf}
-use Rattle.words.proofs.Made.{FloatAs, flag-low, stamp-low, score-low, kernel-low}
+use lib.Dec.{eqb}
+use Rattle.words.proofs.Made.{or-true, FloatAs, flag-low, stamp-low, score-low, kernel-low}
 use Rattle.adaptive_words.specs.Options.{adaptiveVersion, optionsWords, isOptions, optionsOf}
 use Rattle.adaptive_words.specs.Window.{windowWords, isWindow, windowOf}
 
@@ -30,6 +31,7 @@ options-made o w1 w4 w5 w6 w7 w8 w9 w10 w11 e1 wide e4 e5 e6 e7 e8 e9 e10 e11 = 
       lt-ltb (o .«window_width») 4294967296 wide,
       le-leb w9 1 (kernel-low (o .«kernel_size») w9 e9),
       lt-ltb w10 4294967296 (e10 .1 .1),
+      or-true (eqb w9 0),
       le-leb w11 1 (flag-low (o .«initial_cut») w11 (e11 .0)),
     ),
     rw (e1 .1, mod-eq-of-lt wide, e4 .1, e5 .1, e6 .1, e7 .1, e8 .1, e9, e10 .1 .0, e11 .1),

@@ -7,7 +7,7 @@ use native.Mathlib.Omega.{arith}
 use borrow.Rule.Slice.PartMut.{putMid, postOf}
 use lib.Ieee.{Float}
 use lib.IntN.{ℤ}
-use lib.ListN.{length, take, drop, drop-of-length-le}
+use lib.ListN.{length, take, drop, length-append, drop-of-length-le}
 use lib.Seq.{drop-drop}
 use Rattle.laws.proofs.Joined.{first-part, skip-part, skip-put, next-put}
 use Rattle.laws.proofs.Tab.{length-tabulate}
@@ -39,6 +39,12 @@ stamps-length l = length-tabulate 129 _
 scores-length : (l : List Float) → length (scoresWords l) ≡ 129
 unfolding scoresWords
 scores-length l = length-tabulate 129 _
+
+-- how many words a record has
+pub words-length : (d : Detector) → length (adaptiveWords d) ≡ 288
+unfolding adaptiveWords
+words-length d =
+    simp length-append (omega (arith, options-length (d .options), stream-length (d .stream), window-length (d .window), stamps-length (d .window .stamps), scores-length (d .window .scores)))
 
 module _ (d : Detector) (a b c s x : List ℕ)
     (ea : (a ≡ optionsWords (d .options)) × ((isOptions a ≡ true) × (optionsOf a ≡ d .options)))

@@ -1,5 +1,5 @@
 -- The adaptive detector's settings in twelve words, the record's version first.
-use mathlib.Core.Bool.{Bool, _&&_}
+use mathlib.Core.Bool.{Bool, _&&_, _||_}
 use mathlib.Core.List.{List, [], _∷_}
 use Prim.Native.Nat.{ℕ, _%_}
 use lib.Dec.{leb, ltb, eqb}
@@ -32,9 +32,10 @@ optionsWords o =
     flagWord (o .«initial_cut») ∷
     []
 
--- whether twelve words are those of settings: the version is this one, tags are 0 or 1, window and k have 32 bits
+-- whether twelve words are those of settings: the version is this one, tags are 0 or 1, the window has 32 bits, and so has a
+-- set k; the word of a k that is not set is not looked at
 unfoldable pub isOptions : List ℕ → Bool
-isOptions w = eqb (wordAt w 0) adaptiveVersion && ltb (wordAt w 3) 4294967296 && leb (wordAt w 9) 1 && ltb (wordAt w 10) 4294967296 && leb (wordAt w 11) 1
+isOptions w = eqb (wordAt w 0) adaptiveVersion && ltb (wordAt w 3) 4294967296 && leb (wordAt w 9) 1 && (eqb (wordAt w 9) 0 || ltb (wordAt w 10) 4294967296) && leb (wordAt w 11) 1
 
 -- the settings that twelve words are read as
 unfoldable pub optionsOf : List ℕ → Options

@@ -10,7 +10,8 @@ use Rattle.filter.specs.declared.FilterMode.the-variants.{Suppress, Merge}
 use Rattle.filter.specs.declared.Filter.{Filter}
 use Rattle.content.specs.declared.Options.{Options}
 use Rattle.words.specs.Choices.{flagWord, flagOf, stampTag, stampWord, stampOf, kernelTag, kernelWord, kernelOf}
-use Rattle.words.proofs.Made.{FloatAs, flag-low, stamp-low, kernel-low}
+use lib.Dec.{eqb}
+use Rattle.words.proofs.Made.{or-true, FloatAs, flag-low, stamp-low, kernel-low}
 use Rattle.content_words.specs.Options.{contentVersion, modeWord, modeOf, optionsWords, isOptions, optionsOf}
 use Rattle.content_words.specs.Filter.{filterWords, isFilter, filterOf}
 
@@ -35,6 +36,7 @@ options-made o w1 w3 w4 w5 w6 w7 w8 w9 w10 e1 e3 e4 e5 e6 e7 e8 e9 e10 = (
       le-leb w7 1 (mode-low (o .«filter_mode») w7 (e7 .0)),
       le-leb w8 1 (kernel-low (o .«kernel_size») w8 e8),
       lt-ltb w9 4294967296 (e9 .1 .1),
+      or-true (eqb w8 0),
       le-leb w10 1 (flag-low (o .«initial_cut») w10 (e10 .0)),
     ),
     rw (e1 .1, e3 .1, e4 .1, e5 .1, e6 .1, e7 .1, e8, e9 .1 .0, e10 .1),

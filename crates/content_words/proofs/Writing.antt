@@ -29,6 +29,11 @@ filter-length : (f : Filter) → length (filterWords f) ≡ 6
 unfolding filterWords
 filter-length f = refl
 
+-- how many words a record has
+pub words-length : (d : Detector) → length (contentWords d) ≡ 27
+unfolding contentWords optionsWords streamWords filterWords
+words-length d = refl
+
 module _ (d : Detector) (a b c : List ℕ)
     (o : (a ≡ optionsWords (d .options)) × ((isOptions a ≡ true) × (optionsOf a ≡ d .options)))
     (s : (b ≡ streamWords (d .stream)) × ((isStream b ≡ true) × (streamOf b ≡ d .stream)))

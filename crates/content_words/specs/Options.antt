@@ -1,5 +1,5 @@
 -- The content detector's settings in eleven words, the record's version first.
-use mathlib.Core.Bool.{Bool, true, false, _&&_}
+use mathlib.Core.Bool.{Bool, true, false, _&&_, _||_}
 use mathlib.Core.List.{List, [], _∷_}
 use Prim.Native.Nat.{ℕ}
 use lib.Dec.{leb, ltb, eqb}
@@ -47,9 +47,10 @@ optionsWords o =
     flagWord (o .«initial_cut») ∷
     []
 
--- whether eleven words are those of settings: the version is this one, tags are 0 or 1, k has 32 bits
+-- whether eleven words are those of settings: the version is this one, tags are 0 or 1, a set k has 32 bits; the word of a k that is
+-- not set is not looked at
 unfoldable pub isOptions : List ℕ → Bool
-isOptions w = eqb (wordAt w 0) contentVersion && leb (wordAt w 7) 1 && leb (wordAt w 8) 1 && ltb (wordAt w 9) 4294967296 && leb (wordAt w 10) 1
+isOptions w = eqb (wordAt w 0) contentVersion && leb (wordAt w 7) 1 && leb (wordAt w 8) 1 && (eqb (wordAt w 8) 0 || ltb (wordAt w 9) 4294967296) && leb (wordAt w 10) 1
 
 -- the settings that eleven words are read as
 unfoldable pub optionsOf : List ℕ → Options

@@ -1,8 +1,18 @@
 // The library that a station links: all that it calls, on numbers and lent memory alone. A slice passes as a pointer and then a length, an
 // array of fixed size as a pointer. No value is required: memory that is too short, and a state that is not a record, are refused by their
 // numbers. Of the pointers the header requires what no proof here covers: each is not NULL, is aligned, points to as much memory as its type
-// or its length says, and nothing that is written overlaps anything else or is used by anybody else during the call.
+// or its length says; nothing that is written overlaps anything else; and during the call nobody else writes to any of this memory, or reads
+// what the call writes.
 ghost use mathlib.Core.Path.{_≡_};
+ghost use lib.ListN.{length};
+ghost use Rattle.timestamp.specs.declared.MaybeTimestamp.{MaybeTimestamp};
+ghost use Rattle.score.specs.declared.Components.{Components};
+ghost use Rattle.score.specs.declared.MaybeScore.{MaybeScore};
+ghost use Rattle.content.specs.declared.Detector.{Detector};
+ghost use Rattle.adaptive.specs.declared.Detector.{Detector as AdaptiveDetector};
+ghost use Rattle.content_words.specs.Record.{contentWords};
+ghost use Rattle.adaptive_words.specs.Record.{adaptiveWords};
+ghost use Rattle.station_answer.specs.Answer.{answerWords};
 ghost use Rattle.station_answer.specs.Sizes.{storeBytes, scratchBytes, magnitudesCount};
 
 pub mod adaptive_exports;
@@ -19,7 +29,7 @@ pub extern "C" fn mw_version() -> u32
 // How many words a content state has.
 #[no_mangle]
 pub extern "C" fn mw_content_words() -> u64
-    ensures { λ r. ⌜ r ≡ 27 ⌝ }
+    ensures { λ r. ⌜ ((d : Detector) → r ≡ length (contentWords d)) ⌝ }
 {
     27
 }
@@ -27,7 +37,7 @@ pub extern "C" fn mw_content_words() -> u64
 // How many words an adaptive state has.
 #[no_mangle]
 pub extern "C" fn mw_adaptive_words() -> u64
-    ensures { λ r. ⌜ r ≡ 288 ⌝ }
+    ensures { λ r. ⌜ ((d : AdaptiveDetector) → r ≡ length (adaptiveWords d)) ⌝ }
 {
     288
 }
@@ -35,7 +45,7 @@ pub extern "C" fn mw_adaptive_words() -> u64
 // How many words an answer has.
 #[no_mangle]
 pub extern "C" fn mw_answer_words() -> u64
-    ensures { λ r. ⌜ r ≡ 8 ⌝ }
+    ensures { λ r. ⌜ ((cut : MaybeTimestamp) (score : MaybeScore) (deltas : Components) → r ≡ length (answerWords cut score deltas)) ⌝ }
 {
     8
 }

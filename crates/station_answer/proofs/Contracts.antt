@@ -3,7 +3,7 @@ use mathlib.Core.Path.{_≡_, refl}
 use mathlib.Core.List.{List}
 use Prim.Native.Nat.{ℕ, _<_}
 use native.Mathlib.Omega.{arith}
-use borrow.Author.Tests.{ne-eqb}
+use borrow.Author.Tests.{eq-eqb, ne-eqb}
 use lib.ListN.{length}
 use Rattle.content_calls.specs.Call.{Memory}
 use Rattle.station_answer.specs.Answer.{answerWords, ReadAs, after}
@@ -32,14 +32,14 @@ module _ {D : Type 0} (l : Layout D) (b : Brought D) (s a : List ℕ) (m m′ : 
         refused = λ _. same (omega (arith, e));
       }
 
-  pub frame-done : 0 ≡ b .number → (s′ a′ : List ℕ) → s′ ≡ l .wordsOf (b .detector) → l .heldBy s′ ≡ b .detector
-      → a′ ≡ answerWords (b .cut) (b .score) (b .components) → ReadAs (b .cut) (b .score) (b .components) a′ → FrameContract l b 0 s s′ a a′ m m′
-  frame-done z s′ a′ es er ea ar =
+  pub frame-done : (r : ℕ) → r ≡ b .number → r ≡ 0 → (s′ a′ : List ℕ) → s′ ≡ l .wordsOf (b .detector) → l .heldBy s′ ≡ b .detector
+      → a′ ≡ answerWords (b .cut) (b .score) (b .components) → ReadAs (b .cut) (b .score) (b .components) a′ → FrameContract l b r s s′ a a′ m m′
+  frame-done r e z s′ a′ es er ea ar =
       record {
-        number = z;
-        state = es;
+        number = e;
+        state = rw (eq-eqb r 0 z) es;
         read-back = er;
-        answer = ea;
+        answer = rw (eq-eqb r 0 z) ea;
         answer-back = λ _. ar;
         store = stored;
         scratch-length = scratch;
@@ -51,5 +51,5 @@ module _ {D : Type 0} (l : Layout D) (b : Brought D) (s : List ℕ) where
   pub clear-refused : (r : ℕ) → r ≡ b .number → 0 < r → l .heldBy s ≡ b .detector → ClearContract l b r s s
   clear-refused r e some held = record { number = e; state = kept r (l .wordsOf (b .detector)) s some; read-back = held }
 
-  pub clear-done : 0 ≡ b .number → (s′ : List ℕ) → s′ ≡ l .wordsOf (b .detector) → l .heldBy s′ ≡ b .detector → ClearContract l b 0 s s′
-  clear-done z s′ es er = record { number = z; state = es; read-back = er }
+  pub clear-done : (r : ℕ) → r ≡ b .number → r ≡ 0 → (s′ : List ℕ) → s′ ≡ l .wordsOf (b .detector) → l .heldBy s′ ≡ b .detector → ClearContract l b r s s′
+  clear-done r e z s′ es er = record { number = e; state = rw (eq-eqb r 0 z) es; read-back = er }

@@ -41,16 +41,16 @@ module _ {D : Type 0} (l : Layout D) (calls : D → Call → Brought D)
 
   -- ---- one call
 
-  number-is : {s s′ : List ℕ} {y : StationCall} → Made l calls s y s′ → y .number ≡ calls (l .heldBy s) (y .call) .number
+  number-is : {s : List ℕ} {y : StationCall} → Made l calls s y → y .number ≡ calls (l .heldBy s) (y .call) .number
   number-is (by-frame c f t) = t .number
   number-is (by-clear t) = t .number
 
-  held-is : {s s′ : List ℕ} {y : StationCall} → Made l calls s y s′ → l .heldBy s′ ≡ calls (l .heldBy s) (y .call) .detector
+  held-is : {s : List ℕ} {y : StationCall} → Made l calls s y → l .heldBy (y .state) ≡ calls (l .heldBy s) (y .call) .detector
   held-is (by-frame c f t) = t .read-back
   held-is (by-clear t) = t .read-back
 
   -- a refused call leaves the state's words
-  words-stay : {s s′ : List ℕ} {y : StationCall} → Made l calls s y s′ → eqb (y .number) 0 ≡ false → s′ ≡ s
+  words-stay : {s : List ℕ} {y : StationCall} → Made l calls s y → eqb (y .number) 0 ≡ false → y .state ≡ s
   words-stay (by-frame c f t) e = t .state ∙ rw e
   words-stay (by-clear t) e = t .state ∙ rw e
 
@@ -64,7 +64,7 @@ module _ {D : Type 0} (l : Layout D) (calls : D → Call → Brought D)
   clear-cut d true = sym (clear-none d)
   clear-cut d false = sym (clear-none d)
 
-  cut-is : {s s′ : List ℕ} {y : StationCall} → Made l calls s y s′ → cutRead y ≡ calls (l .heldBy s) (y .call) .cut
+  cut-is : {s : List ℕ} {y : StationCall} → Made l calls s y → cutRead y ≡ calls (l .heldBy s) (y .call) .cut
   cut-is (by-frame {r = r} c f t) = frame-cut c t (eqb r 0) refl
   cut-is {s = s} (by-clear {r = r} t) = clear-cut (l .heldBy s) (eqb r 0)
 
@@ -74,13 +74,14 @@ module _ {D : Type 0} (l : Layout D) (calls : D → Call → Brought D)
       record {
         call = c;
         number = 0;
+        state = l .wordsOf (b .detector);
         answer = cond (isFrame c) (answerWords (b .cut) (b .score) (b .components)) [];
         store = cond (isFrame c) (b .store) [];
       }
 
-  shown-is : {s s′ : List ℕ} {y : StationCall} → Made l calls s y s′ → eqb (y .number) 0 ≡ true → y ≡ shown (y .call) (calls (l .heldBy s) (y .call))
-  shown-is (by-frame {r = r} c f t) e = rw (f, t .answer, e, t .store, eqb-true r 0 e)
-  shown-is (by-clear {r = r} t) e = rw (eqb-true r 0 e)
+  shown-is : {s : List ℕ} {y : StationCall} → Made l calls s y → eqb (y .number) 0 ≡ true → y ≡ shown (y .call) (calls (l .heldBy s) (y .call))
+  shown-is (by-frame {r = r} c f t) e = rw (f, t .answer, t .state, e, t .store, eqb-true r 0 e)
+  shown-is (by-clear {r = r} t) e = rw (t .state, e, eqb-true r 0 e)
 
   -- ---- a list of calls
 
@@ -95,7 +96,7 @@ module _ {D : Type 0} (l : Layout D) (calls : D → Call → Brought D)
       ∙ ap (λ (hs : List Heard). record { call = y .call; number = calls d (y .call) .number; cut = calls d (y .call) .cut } ∷ hs) (heard-is rest (calls d (y .call) .detector) held)
 
   -- a call, before the calls after it without their refused ones
-  before : {s s′ : List ℕ} {y : StationCall} {zs : List StationCall} → Made l calls s y s′ → MadeFrom l calls s′ zs → (b : Bool) → eqb (y .number) 0 ≡ b
+  before : {s : List ℕ} {y : StationCall} {zs : List StationCall} → Made l calls s y → MadeFrom l calls (y .state) zs → (b : Bool) → eqb (y .number) 0 ≡ b
       → MadeFrom l calls s (cond (not b) zs (y ∷ zs))
   before m rest true e = then m rest
   before {zs = zs} m rest false e = subst (λ (w : List ℕ). MadeFrom l calls w zs) (words-stay m e) rest
@@ -126,7 +127,7 @@ module _ {D : Type 0} (l : Layout D) (calls : D → Call → Brought D)
       is-cons [] = ⊥
       is-cons (z ∷ zs) = Unit {0}
 
-  same-shown : {s s′ t t′ : List ℕ} {y z : StationCall} → Made l calls s y s′ → Made l calls t z t′ → l .heldBy t ≡ l .heldBy s → z .call ≡ y .call → eqb (y .number) 0 ≡ true → z ≡ y
+  same-shown : {s t : List ℕ} {y z : StationCall} → Made l calls s y → Made l calls t z → l .heldBy t ≡ l .heldBy s → z .call ≡ y .call → eqb (y .number) 0 ≡ true → z ≡ y
   same-shown {s = s} {t = t} {y = y} {z = z} m n held called e =
       let there : calls (l .heldBy t) (z .call) ≡ calls (l .heldBy s) (y .call) = rw (held, called) in
       let number : z .number ≡ y .number = number-is n ∙ ap (λ (b : Brought D). b .number) there ∙ sym (number-is m) in
@@ -139,11 +140,11 @@ module _ {D : Type 0} (l : Layout D) (calls : D → Call → Brought D)
   only-so-from none none held acc e = refl
   only-so-from none (then n rest) held acc e = absurd (no-cons _ _ e)
   only-so-from (then m rest) none held acc e = absurd (no-cons _ _ (sym e))
-  only-so-from {s = s} {t = t} (then {s′ = s′} {y = y} {ys = ys} m rest) (then {s′ = t′} {y = z} {ys = zs} n more) held acc e =
+  only-so-from {s = s} {t = t} (then {y = y} {ys = ys} m rest) (then {y = z} {ys = zs} n more) held acc e =
       let h = same-head e in
       let same : z ≡ y = same-shown m n held (h .0) (acc .0) in
       let there : calls (l .heldBy t) (z .call) ≡ calls (l .heldBy s) (y .call) = rw (held, h .0) in
-      let after : l .heldBy t′ ≡ l .heldBy s′ = held-is n ∙ ap (λ (b : Brought D). b .detector) there ∙ sym (held-is m) in
+      let after : l .heldBy (z .state) ≡ l .heldBy (y .state) = held-is n ∙ ap (λ (b : Brought D). b .detector) there ∙ sym (held-is m) in
       ap (λ (v : StationCall). v ∷ zs) same ∙ ap (λ (vs : List StationCall). y ∷ vs) (only-so-from rest more after (acc .1) (h .1))
 
   accepted-left : (ys : List StationCall) → Accepted (leaveOut wasRefused ys)

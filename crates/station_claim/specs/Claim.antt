@@ -23,7 +23,7 @@ pub record EachCall {D : Type 0} (l : Layout D) (calls : D → Call → Brought 
   -- each call returns its own number, which the state has no part in, and which is never 15
   pub numbers : All (λ (y : StationCall). y .number ≡ ownNumber (y .call)) ys
   pub never-bad : All (λ (y : StationCall). y .number < 15) ys
-  -- the calls that were not refused can be made alone, and bring what they brought: number, answer's words and store
+  -- the calls that were not refused can be made alone, and bring what they brought: number, words of the state and the answer, and store
   pub left-out : MadeFrom l calls s (leaveOut wasRefused ys)
   -- and made alone they can bring nothing else
   pub only-so : (zs : List StationCall) → MadeFrom l calls s zs

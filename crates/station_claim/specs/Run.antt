@@ -23,14 +23,16 @@ memoryIn (bgr pixels w h stride ts m) = m
 memoryIn (hsv hs ss vs w h stride ts m) = m
 memoryIn clear = memory [] [] []
 
--- what a station sees of a call that it made: the call, the number that was returned, and the words of the answer and the store after it
--- (no words and no store of `clear`)
+-- what a station sees of a call that it made: the call, the number that was returned, and the words of the state, the words of the answer
+-- and the store after it (`clear` is lent neither an answer nor a store)
 pub record StationCall : Type 0 where
   pub call : Call
   pub number : ℕ
+  pub state : List ℕ
   pub answer : List ℕ
   pub store : List ℕ
 
+-- a call that did not return 0
 abbrev pub wasRefused : StationCall → Bool
 wasRefused y = not (eqb (y .number) 0)
 
@@ -39,15 +41,15 @@ abbrev pub cutRead : StationCall → MaybeTimestamp
 cutRead y = cond (eqb (y .number) 0) (cutIn (y .answer)) None
 
 module _ {D : Type 0} (l : Layout D) (calls : D → Call → Brought D) where
-  -- a call that meets its contract, with the state's words s before it and s′ after it; the answer's words a before it are any
-  pub data Made : (s : List ℕ) → StationCall → (s′ : List ℕ) → Type 0 where
+  -- a call that meets its contract, with the state's words s before it; the answer's words a before it are any
+  pub data Made : (s : List ℕ) → StationCall → Type 0 where
     by-frame : {s s′ a a′ : List ℕ} {r : ℕ} {m′ : Memory} → (c : Call) → isFrame c ≡ true
         → FrameContract l (calls (l .heldBy s) c) r s s′ a a′ (memoryIn c) m′
-        → Made s (record { call = c; number = r; answer = a′; store = m′ .store }) s′
+        → Made s (record { call = c; number = r; state = s′; answer = a′; store = m′ .store })
     by-clear : {s s′ : List ℕ} {r : ℕ} → ClearContract l (calls (l .heldBy s) clear) r s s′
-        → Made s (record { call = clear; number = r; answer = []; store = [] }) s′
+        → Made s (record { call = clear; number = r; state = s′; answer = []; store = [] })
 
   -- a list of such calls from the words s: each call gets the words that the last one left
   pub data MadeFrom : (s : List ℕ) → List StationCall → Type 0 where
     none : {s : List ℕ} → MadeFrom s []
-    then : {s s′ : List ℕ} {y : StationCall} {ys : List StationCall} → Made s y s′ → MadeFrom s′ ys → MadeFrom s (y ∷ ys)
+    then : {s : List ℕ} {y : StationCall} {ys : List StationCall} → Made s y → MadeFrom (y .state) ys → MadeFrom s (y ∷ ys)

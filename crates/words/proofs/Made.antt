@@ -1,6 +1,6 @@
 -- A tag is 0 or 1. A stream's words, each with what it reads back to, are the stream's and read back to it.
 use mathlib.Core.Path.{_≡_, refl}
-use mathlib.Core.Bool.{Bool, true, false}
+use mathlib.Core.Bool.{Bool, true, false, _||_}
 use mathlib.Core.List.{List, [], _∷_}
 use Prim.Native.Nat.{ℕ, _<_, _≤_}
 use native.Mathlib.Nat.{mod-eq-of-lt}
@@ -19,6 +19,10 @@ use Rattle.score.specs.declared.MaybeComponents.the-variants.{None as noCompone
 use Rattle.stream.specs.declared.Stream.{Stream}
 use Rattle.words.specs.Choices.{flagWord, flagOf, stampTag, kernelTag, scoreTag, scoreWord, scoreOf, componentsTag, componentsShown, componentsIf}
 use Rattle.words.specs.Stream.{streamWords, isStream, streamOf}
+
+pub or-true : (b : Bool) → (b || true) ≡ true
+or-true true = refl
+or-true false = refl
 
 pub flag-low : (b : Bool) (w : ℕ) → w ≡ flagWord b → w ≤ 1
 flag-low true w e = omega arith
