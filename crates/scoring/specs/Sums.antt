@@ -1,5 +1,4 @@
--- Document 01: the differences of a frame's planes with those of the store, as whole sums and a count, and the store after an accepted
--- frame.
+-- The differences of a frame's planes with those of the store, as whole sums and a count, and the store after an accepted frame.
 use mathlib.Core.Bool.{Bool, cond}
 use mathlib.Core.List.{List, _++_}
 use Prim.Native.Nat.{ℕ, _*_}
@@ -12,23 +11,20 @@ use Rattle.stream.specs.declared.Sums.{Sums}
 use Rattle.stream.specs.Sums.{noSums}
 use Rattle.scoring.specs.Planes.{Planes, huePart, saturationPart, lumaPart, edgePart, restPart}
 
--- k as set, or "Without a set k" by the frame's size; worked out afresh at each frame, not held
+-- the side of the edges' window: k as set, or by the frame's size
 abbrev pub kernelOf : KernelSize → ℕ → ℕ → ℕ
 kernelOf Auto w h = autoKernelSize w h
 kernelOf (Set k) w h = k
 
--- hue, saturation and luma; the edge sum is e
+-- the sums of hue, saturation and luma over n pixels; the edge sum is e
 abbrev pub planeSums : ℕ → Planes → ℕ → List ℕ → Sums
 planeSums n p e store =
-    record {
-      hue = sumAbsDiff (p .hue) (huePart n store);
-      saturation = sumAbsDiff (p .saturation) (saturationPart n store);
-      luma = sumAbsDiff (p .luma) (lumaPart n store);
-      edges = e;
-      count = n;
-    }
+    let hue = sumAbsDiff (p .hue) (huePart n store) in
+    let saturation = sumAbsDiff (p .saturation) (saturationPart n store) in
+    let luma = sumAbsDiff (p .luma) (lumaPart n store) in
+    record { hue = hue; saturation = saturation; luma = luma; edges = e; count = n }
 
--- with edges on, that of the edge planes; 0 with edges off
+-- the edge sum: with edges on that of the edge planes, and else 0
 abbrev pub edgeSum : Bool → ℕ → ℕ → ℕ → Planes → List ℕ → ℕ
 edgeSum edges k w h p store = cond edges (sumAbsDiff (edgePlane (p .luma) w h k) (edgePart (w * h) store)) 0
 
@@ -36,10 +32,8 @@ edgeSum edges k w h p store = cond edges (sumAbsDiff (edgePlane (p .luma) w h k)
 unfoldable pub frameSums : (edges scored : Bool) (k w h : ℕ) → Planes → List ℕ → Sums
 frameSums edges scored k w h p store = cond scored (planeSums (w * h) p (edgeSum edges k w h p store) store) noSums
 
--- the store after it: the frame's planes; with edges off "the edge plane is then untouched"; "Store bytes from 4n on never change."
+-- the store after it: the frame's planes, then its edge plane, which stays as it was with edges off; the bytes after these never change
 unfoldable pub storeAfter : (edges : Bool) (k w h : ℕ) → Planes → List ℕ → List ℕ
 storeAfter edges k w h p store =
-    p .hue
-    ++ (p .saturation
-    ++ (p .luma
-    ++ (cond edges (edgePlane (p .luma) w h k) (edgePart (w * h) store) ++ restPart (w * h) store)))
+    let edge = cond edges (edgePlane (p .luma) w h k) (edgePart (w * h) store) in
+    p .hue ++ (p .saturation ++ (p .luma ++ (edge ++ restPart (w * h) store)))

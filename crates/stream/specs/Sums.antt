@@ -1,6 +1,7 @@
--- Document 01: the components of a frame are the means of its differences: whole sums over a count.
+-- The components of a frame are the means of its differences: whole sums over a count.
 use Rattle.arch_planes.specs.Difference.{meanOf}
 use Rattle.score.specs.declared.Components.{Components}
+use Rattle.score.specs.Scores.{components}
 use Rattle.stream.specs.declared.Sums.{Sums}
 
 -- of a frame without an earlier one in its stretch
@@ -10,9 +11,4 @@ noSums = record { hue = 0; saturation = 0; luma = 0; edges = 0; count = 0 }
 -- each component is its sum over the count
 unfoldable pub componentsOf : Sums → Components
 componentsOf s =
-    record {
-      «delta_hue» = meanOf (s .hue) (s .count);
-      «delta_sat» = meanOf (s .saturation) (s .count);
-      «delta_lum» = meanOf (s .luma) (s .count);
-      «delta_edges» = meanOf (s .edges) (s .count);
-    }
+    components (meanOf (s .hue) (s .count)) (meanOf (s .saturation) (s .count)) (meanOf (s .luma) (s .count)) (meanOf (s .edges) (s .count))

@@ -1,4 +1,4 @@
--- `content_frames::process_hsv` meets its contract: refused by the first number, or accepted with the frame's planes in the scratch.
+-- `frame_call::process_hsv` meets its contract: refused by the first number, or accepted with the frame's planes in the scratch.
 use borrow.Author.Needs.{needs}
 use mathlib.Core.Path.{_≡_, refl, sym, _∙_}
 use Prim.Native.Nat.{ℕ, _+_, _-_, _*_, _^_, _≤_, _<_}
@@ -9,12 +9,12 @@ use Rattle.laws.proofs.Parts.{length-from-to}
 use Rattle.frame.specs.Checks.{hsvRefusal}
 use Rattle.frame.proofs.Accepted.{accepted-hsv}
 use Rattle.stream.specs.Stream.{memoryRefusal}
-use Rattle.content_calls.specs.Call.{callRefusal}
-use Rattle.content_frames.proofs.Refusals.{passed, Enough, enough}
-use Rattle.content_frames.proofs.Filled.{hsv-sized}
-use Rattle.content_frames.proofs.Returned.{called-refused, called-accepted}
-use Rattle.content_frames.proofs.process_hsv.Statement.{statement}
-use Rattle.content_frames.proofs.process_hsv.Tie as tie
+use Rattle.frame_call.specs.Call.{callRefusal}
+use Rattle.frame_call.proofs.Refusals.{passed, Enough, enough}
+use Rattle.frame_call.proofs.Filled.{hsv-sized}
+use Rattle.frame_call.proofs.Returned.{called-refused, called-accepted}
+use Rattle.frame_call.proofs.process_hsv.Statement.{statement}
+use Rattle.frame_call.proofs.process_hsv.Tie as tie
 
 hsv-refusal-requires : tie.Need-hsv-refusal-requires
 hsv-refusal-requires c κs = search needs
@@ -22,18 +22,18 @@ hsv-refusal-requires c κs = search needs
 call-refusal-requires : tie.Need-call-refusal-requires
 call-refusal-requires c κs z = let a = accepted-hsv _ _ _ _ _ _ (sym (c .hsv-refusal .ensures) ∙ z) in (a .0 .wide, a .0 .high)
 
-without-score-requires : tie.Need-without-score-requires
-without-score-requires c κs = search needs
+refuse-requires : tie.Need-refuse-requires
+refuse-requires c κs = search needs
 
 -- the number, by the frame and the memory
 number : (c : tie.After-call-refusal) → let a = c .before .before .before .before .before .before .before .args in
     c .call-refusal .result
-    ≡ callRefusal (a .d) (hsvRefusal (length (a .hue .now)) (length (a .saturation .now)) (length (a .value .now)) (a .width) (a .height) (a .stride))
+    ≡ callRefusal (a .bad) (hsvRefusal (length (a .hue .now)) (length (a .saturation .now)) (length (a .value .now)) (a .width) (a .height) (a .stride))
     (memoryRefusal (length (a .store .now)) (length (a .scratch .now)) (length (a .magnitudes .now)) (a .width) (a .height))
 number c = rw (c .before .hsv-refusal .ensures) at (c .call-refusal .ensures)
 
 returns : tie.Need-returns
-returns c = called-refused _ _ _ _ _ _ _ _ _ (c .without-score .ensures) (number (c .before .before)) (c .before .if1 .taken)
+returns c = called-refused _ _ _ _ _ _ _ (c .refuse .ensures) (number (c .before .before)) (c .before .if1 .taken)
 
 -- the call is accepted
 both : (c : tie.Else1) → let a = c .before .before .before .before .before .before .before .before .args in
@@ -89,7 +89,7 @@ returns-2 c =
     let b = c .before .before .before .before .before .before .before .before .before .before .before .before .before in
     let f = c .before .before .before .before .before .before .before .before .before .before .before in
     let a = c .before .before .before .before .before in
-    called-accepted _ _ _ _ _ _ _ (f .fill-hsv .last .0) _ (hsv-sized _ _ _ _ _ _) (f .fill-hsv .ensures) _ _ (sym (number (b .before)) ∙ omega arith)
+    called-accepted _ _ _ _ _ (f .fill-hsv .last .0) _ (hsv-sized _ _ _ _ _ _) (f .fill-hsv .ensures) _ _ (sym (number (b .before)) ∙ omega arith)
     (a .accept .ensures .0) (a .accept .ensures .1) (omega arith) (omega arith)
 
 pub process-hsv-spec : {M : Type 1} → statement M
@@ -98,7 +98,7 @@ process-hsv-spec =
     (tie.spec
     hsv-refusal-requires
     call-refusal-requires
-    without-score-requires
+    refuse-requires
     returns
     mul-e
     mul-e-2

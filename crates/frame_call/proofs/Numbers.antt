@@ -9,8 +9,8 @@ use Rattle.frame.specs.Refusal.{firstThat}
 use Rattle.frame.specs.Checks.{tooLarge, tooShort, planeRefusal, lumaRefusal, bgrRefusal, hsvRefusal}
 use Rattle.stream.specs.Stream.{memoryRefusal}
 use Rattle.filter.specs.Claim.{All}
-use Rattle.content_calls.specs.Call.{Memory, Call, luma, bgr, hsv, clear, memoryOf}
-use Rattle.content_claim.specs.View.{firstOf, ownNumber}
+use Rattle.frame_call.specs.Call.{Memory, Call, luma, bgr, hsv, clear, GivenFrame, givenLuma, givenBgr, givenHsv, callRefusal, frameNumber}
+use Rattle.frame_call.specs.Run.{ownNumber}
 
 abbrev Below : List (Bool × ℕ) → Type 0
 Below rows = All (λ (row : Bool × ℕ). row .1 < 15) rows
@@ -40,15 +40,17 @@ memory-below store scratch magnitudes w h =
     first-below ((ltb store (4 * (w * h)), 12) ∷ (ltb scratch (7 * (w * h) + 2 * max w h), 13) ∷ (ltb magnitudes (w * h), 14) ∷ [])
     (omega arith, (omega arith, (omega arith, tt)))
 
-both-below : (f : ℕ) (m : Memory) (w h : ℕ) → f < 15 → firstOf f (memoryOf m w h) < 15
-both-below f m w h p =
-    let n = memoryOf m w h in
-    first-below ((not (eqb f 0), f) ∷ (not (eqb n 0), n) ∷ []) (p, (memory-below (length (m .store)) (length (m .scratch)) (length (m .magnitudes)) w h, tt))
+-- of a frame whose own number is below 15
+frame-below : (f : GivenFrame) (m : Memory) → f .refusal < 15 → frameNumber false f m < 15
+unfolding callRefusal
+frame-below f m p =
+    let n = memoryRefusal (length (m .store)) (length (m .scratch)) (length (m .magnitudes)) (f .width) (f .height) in
+    first-below ((not (eqb (f .refusal) 0), f .refusal) ∷ (not (eqb n 0), n) ∷ [])
+    (p, (memory-below (length (m .store)) (length (m .scratch)) (length (m .magnitudes)) (f .width) (f .height), tt))
 
 pub own-below : (c : Call) → ownNumber c < 15
 unfolding lumaRefusal bgrRefusal
-own-below (luma plane w h stride ts m) = both-below (lumaRefusal (length plane) w h stride) m w h (plane-below w (length plane) w h stride)
-own-below (bgr pixels w h stride ts m) = both-below (bgrRefusal (length pixels) w h stride) m w h (plane-below (3 * w) (length pixels) w h stride)
-own-below (hsv hs ss vs w h stride ts m) =
-    both-below (hsvRefusal (length hs) (length ss) (length vs) w h stride) m w h (hsv-below (length hs) (length ss) (length vs) w h stride)
+own-below (luma plane w h stride ts m) = frame-below (givenLuma plane w h stride) m (plane-below w (length plane) w h stride)
+own-below (bgr pixels w h stride ts m) = frame-below (givenBgr pixels w h stride) m (plane-below (3 * w) (length pixels) w h stride)
+own-below (hsv hs ss vs w h stride ts m) = frame-below (givenHsv hs ss vs w h stride) m (hsv-below (length hs) (length ss) (length vs) w h stride)
 own-below clear = omega arith

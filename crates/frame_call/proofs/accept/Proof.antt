@@ -1,8 +1,8 @@
--- `content_frames::accept` meets its contract: the sums, and the step by them.
+-- `frame_call::accept` meets its contract: the sums, and the stream by them.
 use borrow.Author.Needs.{needs}
-use Rattle.content_calls.specs.Call.{accepted}
-use Rattle.content_frames.proofs.accept.Statement.{statement}
-use Rattle.content_frames.proofs.accept.Tie as tie
+use Rattle.frame_call.specs.Call.{accepted}
+use Rattle.frame_call.proofs.accept.Statement.{statement}
+use Rattle.frame_call.proofs.accept.Tie as tie
 
 edges-enabled-requires : tie.Need-edges-enabled-requires
 edges-enabled-requires c κs = search needs
@@ -16,8 +16,8 @@ is-scored-requires c κs = search needs
 frame-sums-requires : tie.Need-frame-sums-requires
 frame-sums-requires c κs = search needs
 
-step-requires : tie.Need-step-requires
-step-requires c κs = search needs
+next-stream-requires : tie.Need-next-stream-requires
+next-stream-requires c κs = search needs
 
 same-length : tie.Need-same-length
 same-length c = search needs
@@ -35,7 +35,7 @@ returns c =
     let s = c .before .before .before .before .before .before .before .before .before .before .is-scored .ensures in
     let k = c .before .before .before .before .before .before .before .before .before .before .before .kernel .ensures in
     let e = c .before .before .before .before .before .before .before .before .before .before .before .before .edges-enabled .ensures in
-    (rw (c .step .ensures, rw (s, k, e) at (f .frame-sums .ensures .0)), rw (k, e) at (f .frame-sums .ensures .1))
+    (rw (c .next-stream .ensures, rw (s, k, e) at (f .frame-sums .ensures .0)), rw (k, e) at (f .frame-sums .ensures .1))
 
 pub accept-spec : {M : Type 1} → statement M
 accept-spec =
@@ -45,7 +45,7 @@ accept-spec =
     kernel-requires
     is-scored-requires
     frame-sums-requires
-    step-requires
+    next-stream-requires
     same-length
     same-length-2
     same-length-3
