@@ -3,7 +3,7 @@
 // magnitudes. What a frame is to a detector is in the crate `frame_call`; its step is added here.
 ghost use mathlib.Core.Path.{_≡_};
 ghost use Rattle.frame_call.specs.Call.{luma, bgr, hsv, memory, answeredBy, Called};
-ghost use Rattle.adaptive.specs.State.{unscoredAnswer};
+ghost use Rattle.adaptive.specs.State.{refusedAnswer};
 ghost use Rattle.adaptive.specs.Step.{stepped, called};
 use adaptive::Answer;
 use adaptive::Detector;
@@ -12,7 +12,7 @@ use timestamp::Timestamp;
 
 // The answer to a frame: the step of an accepted one, or the refusal's number.
 fn answer_to(d: Detector, ts: Timestamp, p: Picture) -> Answer
-    ensures { λ r. ⌜ r ≡ answeredBy (stepped d ts) (unscoredAnswer d) p ⌝ }
+    ensures { λ r. ⌜ r ≡ answeredBy (stepped d ts) (refusedAnswer d) p ⌝ }
     ensures { λ r. ⌜ r .number ≡ p .number ⌝ }
 {
     if 0 < p.number {
