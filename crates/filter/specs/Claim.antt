@@ -8,31 +8,27 @@ use lib.Dec.{eqb}
 use lib.IntN.{ℤ, pos, _+ℤ_}
 use lib.ListN.{length}
 use lib.Signed.{_≤ℤ_}
+use Rattle.laws.specs.Lists.{All, leaveOut}
 use Rattle.timestamp.specs.declared.MaybeTimestamp.{MaybeTimestamp}
 use Rattle.timestamp.specs.declared.MaybeTimestamp.the-variants.{None, At}
 use Rattle.filter.specs.declared.FilterMode.{FilterMode}
 use Rattle.filter.specs.declared.FilterMode.the-variants.{Suppress, Merge}
 use Rattle.filter.specs.declared.FilterOptions.{FilterOptions}
 use Rattle.filter.specs.Flash.{virtualSeed}
-use Rattle.filter.specs.Calls.{Frame, Call, refused, frame, clear, Answered, _brought_, run}
+use Rattle.filter.specs.Calls.{Frame, FilterCall, refused, frame, clear, Answered, _brought_, filterRun}
 
 -- ---- "When refused calls are left out, each other call still brings what it brought"
 
-abbrev pub isRefused : Call → Bool
-isRefused refused = true
-isRefused (frame w h f) = false
-isRefused clear = false
+abbrev pub filterRefused : FilterCall → Bool
+filterRefused refused = true
+filterRefused (frame w h f) = false
+filterRefused clear = false
 
-abbrev pub callOf : {A : Type 0} → Answered A → Call
+abbrev pub callOf : {A : Type 0} → Answered A → FilterCall
 callOf (c brought a) = c
 
--- the list without the elements of which `out` holds
-abbrev pub leaveOut : {A : Type 0} → (A → Bool) → List A → List A
-leaveOut out [] = []
-leaveOut out (x ∷ xs) = cond (out x) (leaveOut out xs) (x ∷ leaveOut out xs)
-
 abbrev pub withoutRefused : {A : Type 0} → List (Answered A) → List (Answered A)
-withoutRefused {A} xs = leaveOut (λ (x : Answered A). isRefused (callOf x)) xs
+withoutRefused {A} xs = leaveOut (λ (x : Answered A). filterRefused (callOf x)) xs
 
 -- ---- "A stretch is a longest run of accepted frame calls of one width and height with none but refused calls between them"
 
@@ -54,16 +50,16 @@ goesOn w h ((frame w′ h′ f brought a) ∷ xs) = eqb w w′ && eqb h h′
 goesOn w h ((clear brought a) ∷ xs) = false
 
 -- a frame, before the stretches of the calls after it: the first of these takes it in where its stretch goes on, and else it is one by itself
-abbrev pub joined : {A : Type 0} → (goes-on : Bool) → Shot A → List (Stretch A) → List (Stretch A)
-joined b x [] = record { first = x; scored = [] } ∷ []
-joined true x (t ∷ ts) = record { first = x; scored = t .first ∷ t .scored } ∷ ts
-joined false x (t ∷ ts) = record { first = x; scored = [] } ∷ t ∷ ts
+abbrev pub joinedStretch : {A : Type 0} → (goes-on : Bool) → Shot A → List (Stretch A) → List (Stretch A)
+joinedStretch b x [] = record { first = x; scored = [] } ∷ []
+joinedStretch true x (t ∷ ts) = record { first = x; scored = t .first ∷ t .scored } ∷ ts
+joinedStretch false x (t ∷ ts) = record { first = x; scored = [] } ∷ t ∷ ts
 
 -- The stretches of a list of calls, in order. The division is by the calls alone: it is the same whatever the answers are, and of whatever type.
 abbrev pub stretches : {A : Type 0} → List (Answered A) → List (Stretch A)
 stretches [] = []
 stretches ((refused brought a) ∷ xs) = stretches xs
-stretches ((frame w h f brought a) ∷ xs) = joined (goesOn w h xs) (record { frame = f; answer = a }) (stretches xs)
+stretches ((frame w h f brought a) ∷ xs) = joinedStretch (goesOn w h xs) (record { frame = f; answer = a }) (stretches xs)
 stretches ((clear brought a) ∷ xs) = stretches xs
 
 abbrev pub scoredFrames : {A : Type 0} → Stretch A → List Frame
@@ -102,10 +98,6 @@ abbrev pub KeepsDistance : (minimum : ℕ) → List ℤ → Type 0
 KeepsDistance d [] = Unit {0}
 KeepsDistance d (x ∷ []) = Unit {0}
 KeepsDistance d (x ∷ y ∷ ys) = ((x +ℤ pos d) ≤ℤ y) × KeepsDistance d (y ∷ ys)
-
-abbrev pub All : {A : Type 0} → (A → Type 0) → List A → Type 0
-All P [] = Unit {0}
-All P (x ∷ xs) = P x × All P xs
 
 -- stamps that never fall: none is before an earlier one
 abbrev pub NeverFall : List ℤ → Type 0
@@ -151,20 +143,20 @@ InMode Suppress o fs cs = Suppressed o fs cs
 InMode Merge o fs cs = Merged o fs cs
 
 -- a stretch keeps the rule of the mode
-abbrev pub Keeps : FilterOptions → Stretch MaybeTimestamp → Type 0
-Keeps o t = InMode (o .«filter_mode») o (scoredFrames t) (cuts t)
+abbrev pub StretchKeeps : FilterOptions → Stretch MaybeTimestamp → Type 0
+StretchKeeps o t = InMode (o .«filter_mode») o (scoredFrames t) (cuts t)
 
 -- Demand 3, of calls and what they brought
-pub record Holds (o : FilterOptions) (xs : List (Answered MaybeTimestamp)) : Type 0 where
+pub record StretchesHold (o : FilterOptions) (xs : List (Answered MaybeTimestamp)) : Type 0 where
   -- "The first frame of a stretch .. gives no cut"
   pub first-frames : All (λ (t : Stretch MaybeTimestamp). t .first .answer ≡ None) (stretches xs)
   -- each stretch keeps the rule of the mode
-  pub each-stretch : All (Keeps o) (stretches xs)
+  pub each-stretch : All (StretchKeeps o) (stretches xs)
   -- every cut is a stretch's
   pub no-others : cutsIn (answers xs) ≡ allCuts (stretches xs)
 
 -- Demand 3, of a list of calls from a fresh state
-pub record Claim (o : FilterOptions) (calls : List Call) : Type 0 where
-  pub holds : Holds o (run o calls)
+pub record FilterClaim (o : FilterOptions) (calls : List FilterCall) : Type 0 where
+  pub holds : StretchesHold o (filterRun o calls)
   -- without the refused calls each other call brings what it brought
-  pub left-out : run o (leaveOut isRefused calls) ≡ withoutRefused (run o calls)
+  pub left-out : filterRun o (leaveOut filterRefused calls) ≡ withoutRefused (filterRun o calls)

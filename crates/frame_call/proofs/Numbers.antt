@@ -8,7 +8,7 @@ use lib.ListN.{length}
 use Rattle.frame.specs.Refusal.{firstThat}
 use Rattle.frame.specs.Checks.{tooLarge, tooShort, planeRefusal, lumaRefusal, bgrRefusal, hsvRefusal}
 use Rattle.stream.specs.Stream.{memoryRefusal}
-use Rattle.filter.specs.Claim.{All}
+use Rattle.laws.specs.Lists.{All}
 use Rattle.frame_call.specs.Call.{Memory, Call, luma, bgr, hsv, clear, GivenFrame, givenLuma, givenBgr, givenHsv, callRefusal, frameNumber}
 use Rattle.frame_call.specs.Run.{ownNumber}
 

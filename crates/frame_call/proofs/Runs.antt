@@ -11,7 +11,7 @@ use Rattle.frame.specs.Checks.{tooLarge}
 use Rattle.frame.proofs.Accepted.{Accepted, accepted-luma, accepted-bgr, accepted-hsv}
 use Rattle.stream.specs.declared.Stream.{Stream}
 use Rattle.stream.specs.Stream.{isScored, nextStream}
-use Rattle.filter.specs.Claim.{All, leaveOut}
+use Rattle.laws.specs.Lists.{All, leaveOut}
 use Rattle.frame_call.specs.declared.PictureOptions.{PictureOptions}
 use Rattle.frame_call.specs.Call.{Memory, Call, luma, bgr, hsv, clear, GivenFrame, givenLuma, givenBgr, givenHsv, frameNumber, Outcome, sumsOf, accepted, pictured, answeredBy, outcomeOf}
 use Rattle.frame_call.specs.Run.{ownNumber, isRefused, MadeCall, runFrom, RunClaim}
@@ -49,7 +49,7 @@ module _ {D A : Type 0} (streamOf : D → Stream) (settings : D → PictureOptio
   called d c = outcomeOf (streamOf d) (settings d) (bad d) (stepped d) (refused d) (cleared d) c
 
   -- Good is what holds of every state of a run; this is what a detector shows of it, and of its answers
-  pub record Keeps (Good : D → Type 0) : Type 0 where
+  pub record DetectorLaws (Good : D → Type 0) : Type 0 where
     pub not-bad : (d : D) → Good d → bad d ≡ false
     pub step-number : (d : D) (ts : Timestamp) (s : Stream) → number (stepped d ts s) ≡ 0
     pub step-stays : (d : D) (ts : Timestamp) (s : Stream) → tooLarge (s .width) (s .height) ≡ false → Good d → Good (stateOf (stepped d ts s))
@@ -58,7 +58,7 @@ module _ {D A : Type 0} (streamOf : D → Stream) (settings : D → PictureOptio
     pub clear-number : (d : D) → Good d → number (cleared d) ≡ 0
     pub clear-stays : (d : D) → Good d → Good (stateOf (cleared d))
 
-  module _ (Good : D → Type 0) (k : Keeps Good) where
+  module _ (Good : D → Type 0) (k : DetectorLaws Good) where
     module _ (d : D) (f : GivenFrame) (ts : Timestamp) (m : Memory) (g : Good d) where
       abbrev answer : A
       answer = answeredBy (stepped d ts) (refused d) (pictured (streamOf d) (settings d) (bad d) f m .answer)

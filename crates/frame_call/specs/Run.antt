@@ -4,7 +4,7 @@ use mathlib.Core.Bool.{Bool, false, not}
 use mathlib.Core.List.{List, [], _∷_}
 use Prim.Native.Nat.{ℕ, _<_}
 use lib.Dec.{eqb}
-use Rattle.filter.specs.Claim.{All, leaveOut}
+use Rattle.laws.specs.Lists.{All, leaveOut}
 use Rattle.frame_call.specs.Call.{Call, byCall, frameNumber, Outcome}
 
 -- the number by which a call is refused for itself, or 0: that at a state which is not bad. `clear` has none.
