@@ -5,13 +5,15 @@ use mathlib.Core.List.{List, _++_}
 use Prim.Native.Nat.{ℕ, _*_, _<_}
 use native.Mathlib.Omega.{arith}
 use lib.Dec.{eqb}
+use lib.IntN.{ℤ}
 use lib.ListN.{length}
 use borrow.Author.Tests.{eq-eqb, ne-eqb}
+use Rattle.timestamp.specs.declared.Timestamp.{Timestamp}
 use Rattle.stream.specs.declared.Stream.{Stream}
 use Rattle.scoring.specs.Planes.{Planes, joined, planesIn}
 use Rattle.frame_call.specs.declared.PictureOptions.{PictureOptions}
 use Rattle.frame_call.specs.declared.Picture.{Picture}
-use Rattle.frame_call.specs.Call.{Memory, GivenFrame, frameNumber, Outcome, accepted, refusedPicture, pictured, answeredBy, Called}
+use Rattle.frame_call.specs.Call.{Memory, GivenFrame, frameNumber, Outcome, accepted, refusedPicture, pictured, answeredBy, outcomeOf, luma, memory, Called}
 use Rattle.frame_call.proofs.Filled.{Sized, planes-of}
 
 module _ (s : Stream) (o : PictureOptions) (bad : Bool) (f : GivenFrame) (m : Memory) where
@@ -70,3 +72,12 @@ called-by stepped refused p q r n m m′ c e z =
       magnitudes-length = c .magnitudes-length;
       refused = λ h. c .refused (omega arith);
     }
+
+-- of the scratch and the magnitudes a call asks for the lengths alone
+pub lent-same : {A : Type 0} (s : Stream) (o : PictureOptions) (bad : Bool) (stepped : Timestamp → Stream → A) (refused : ℕ → A) (cleared : A)
+    (plane : List ℕ) (w h stride : ℕ) (ts : Timestamp) (store scratch scratch′ : List ℕ) (magnitudes magnitudes′ : List ℤ)
+    → length scratch ≡ length scratch′ → length magnitudes ≡ length magnitudes′
+    → outcomeOf s o bad stepped refused cleared (luma plane w h stride ts (memory store scratch magnitudes))
+    ≡ outcomeOf s o bad stepped refused cleared (luma plane w h stride ts (memory store scratch′ magnitudes′))
+unfolding pictured
+lent-same s o bad stepped refused cleared plane w h stride ts store scratch scratch′ magnitudes magnitudes′ p q = rw (p, q)
