@@ -37,10 +37,6 @@ settled o = record { number = optionsRefusal o; detector = fresh (cond (eqb (opt
 abbrev pub refusedAnswer : Detector → ℕ → Answer
 refusedAnswer d n = record { number = n; detector = d; cut = None; score = noScore; components = componentsShown noComponents }
 
--- `clear` keeps settings and size; all else is as at the start
-abbrev pub cleared : Detector → Detector
-cleared d = stateOf (d .options) (d .stream .width) (d .stream .height)
-
--- what `clear` returns: it is refused by 15 alone
+-- what `clear` returns: refused by 15 alone, it keeps settings and size, and all else is as at the start
 unfoldable pub clearedAnswer : Detector → Answer
-clearedAnswer d = cond (badState d) (refusedAnswer d 15) (refusedAnswer (cleared d) 0)
+clearedAnswer d = cond (badState d) (refusedAnswer d 15) (refusedAnswer (stateOf (d .options) (d .stream .width) (d .stream .height)) 0)

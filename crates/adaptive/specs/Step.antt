@@ -24,13 +24,8 @@ windowStep o s ts (someScore x) = pushAndCheck (windowOptions o) s ts x
 unfoldable pub stepped : Detector → Timestamp → Stream → Answer
 stepped d ts s =
     let step : WindowStep = windowStep (d .options) (d .window) ts (s .«last_score») in
-    record {
-      number = 0;
-      detector = record { options = d .options; stream = s; window = step .window };
-      cut = step .cut;
-      score = s .«last_score»;
-      components = componentsShown (s .«last_components»);
-    }
+    let after : Detector = record { options = d .options; stream = s; window = step .window } in
+    record { number = 0; detector = after; cut = step .cut; score = s .«last_score»; components = componentsShown (s .«last_components») }
 
 -- a call: what it answers, with the state that it returns, and the store after it
 abbrev pub called : Detector → Call → Outcome Answer

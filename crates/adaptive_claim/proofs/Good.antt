@@ -16,7 +16,7 @@ use Rattle.adaptive.specs.declared.Options.{Options}
 use Rattle.adaptive.specs.declared.Detector.{Detector}
 use Rattle.adaptive.specs.declared.Answer.{Answer}
 use Rattle.adaptive.specs.Options.{windowOptions, pictureOptions, optionsRefusal}
-use Rattle.adaptive.specs.State.{fresh, badState, refusedAnswer, cleared, clearedAnswer}
+use Rattle.adaptive.specs.State.{stateOf, fresh, badState, refusedAnswer, clearedAnswer}
 use Rattle.adaptive.specs.Step.{windowStep, stepped}
 use Rattle.adaptive_claim.proofs.Counted.{push-keeps}
 
@@ -46,7 +46,7 @@ module _ (o : Options) (ok : optionsRefusal o ≡ 0) where
       go : d .options ≡ o → (not (eqb (optionsRefusal (d .options)) 0) || false || false) ≡ false
       go e = rw (e, ok)
 
-  pub clear-is : (d : Detector) → Good o d → clearedAnswer d ≡ refusedAnswer (cleared d) 0
+  pub clear-is : (d : Detector) → Good o d → clearedAnswer d ≡ refusedAnswer (stateOf (d .options) (d .stream .width) (d .stream .height)) 0
   unfolding clearedAnswer
   clear-is d g = rw (not-bad d g)
 

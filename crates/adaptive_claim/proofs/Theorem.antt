@@ -12,12 +12,13 @@ use Rattle.timestamp.specs.declared.MaybeTimestamp.{MaybeTimestamp}
 use Rattle.score.specs.declared.MaybeScore.{MaybeScore}
 use Rattle.score.specs.declared.MaybeScore.the-variants.{None as noScore, Some as someScore}
 use Rattle.score.specs.Settings.{settingsRefusal, anyTooHeavy, tooHeavy, allZero}
+use Rattle.scoring.specs.Planes.{Planes}
 use Rattle.filter.specs.Claim.{cutsIn, KeepsDistance}
 use Rattle.window.specs.Calls.{refused, Answered, _brought_}
 use Rattle.window.specs.Claim.{joinedPart, fromClearToClear as windowParts}
 use Rattle.window.specs.Seen.{seenByWindow}
 use Rattle.window.proofs.Acts.{acts-holds}
-use Rattle.frame_call.specs.Call.{Memory, Call, luma, bgr, hsv, clear, GivenFrame, givenLuma, givenBgr, givenHsv, frameNumber}
+use Rattle.frame_call.specs.Call.{Memory, Call, luma, bgr, hsv, clear, frameNumber}
 use Rattle.frame_call.specs.Run.{runFrom}
 use Rattle.frame_call.proofs.Runs.{run-claim, stays as runs-stay}
 use Rattle.adaptive.specs.declared.Options.{Options}
@@ -35,9 +36,9 @@ next d c = called d c .answer .detector
 
 -- ---- the run, as `window`'s law sees it: both divide at the clears
 
-not-clear : (d : Detector) (f : GivenFrame) (ts : Timestamp) (m : Memory) (a : MaybeTimestamp) (xs : List (Answered MaybeTimestamp))
-    → windowParts ((frameView d f ts m brought a) ∷ xs) ≡ joinedPart a (windowParts xs)
-not-clear d f ts m a xs = by-zero (eqb (frameNumber (badState d) f m) 0) (after d f ts m .«last_score»)
+not-clear : (d : Detector) (u w h : ℕ) (p : Planes) (ts : Timestamp) (m : Memory) (a : MaybeTimestamp) (xs : List (Answered MaybeTimestamp))
+    → windowParts ((frameView d u w h p ts m brought a) ∷ xs) ≡ joinedPart a (windowParts xs)
+not-clear d u w h p ts m a xs = by-zero (eqb (frameNumber (badState d) u w h m) 0) (after d u w h p ts m .«last_score»)
   where
     by-zero : (b : Bool) (x : MaybeScore) → windowParts ((cond b (scoredIf x ts) refused brought a) ∷ xs) ≡ joinedPart a (windowParts xs)
     by-zero true noScore = refl
@@ -45,9 +46,9 @@ not-clear d f ts m a xs = by-zero (eqb (frameNumber (badState d) f m) 0) (after 
     by-zero false x = refl
 
 one-part : (d : Detector) (c : Call) (a : MaybeTimestamp) (xs : List (Answered MaybeTimestamp)) → windowParts ((viewOf d c brought a) ∷ xs) ≡ withAnswer c a (windowParts xs)
-one-part d (luma plane w h stride ts m) a xs = not-clear d (givenLuma plane w h stride) ts m a xs
-one-part d (bgr pixels w h stride ts m) a xs = not-clear d (givenBgr pixels w h stride) ts m a xs
-one-part d (hsv hs ss vs w h stride ts m) a xs = not-clear d (givenHsv hs ss vs w h stride) ts m a xs
+one-part d (luma plane w h stride ts m) a xs = not-clear d _ _ _ _ ts m a xs
+one-part d (bgr pixels w h stride ts m) a xs = not-clear d _ _ _ _ ts m a xs
+one-part d (hsv hs ss vs w h stride ts m) a xs = not-clear d _ _ _ _ ts m a xs
 one-part d clear a xs = refl
 
 seen-is : (d : Detector) (cs : List Call)

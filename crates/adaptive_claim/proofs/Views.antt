@@ -7,9 +7,10 @@ use Rattle.timestamp.specs.declared.Timestamp.{Timestamp}
 use Rattle.score.specs.declared.MaybeScore.{MaybeScore}
 use Rattle.score.specs.declared.MaybeScore.the-variants.{None as noScore, Some as someScore}
 use Rattle.stream.specs.declared.Stream.{Stream}
+use Rattle.scoring.specs.Planes.{Planes}
 use Rattle.window.specs.declared.WindowStep.{WindowStep}
 use Rattle.window.specs.Calls.{WindowCall, refused, unscored, scored, clear as clearCall, turn}
-use Rattle.frame_call.specs.Call.{Memory, Call, luma, bgr, hsv, clear, GivenFrame, givenLuma, givenBgr, givenHsv, byCall, frameNumber, pictured, answeredBy}
+use Rattle.frame_call.specs.Call.{Memory, Call, luma, bgr, hsv, clear, byCall, frameNumber, pictured, answeredBy}
 use Rattle.frame_call.proofs.Runs.{streamAfter, if-accepted, if-refused}
 use Rattle.adaptive.specs.declared.Options.{Options}
 use Rattle.adaptive.specs.declared.Detector.{Detector}
@@ -28,12 +29,12 @@ abbrev pub scoredIf : MaybeScore → Timestamp → WindowCall
 scoredIf noScore ts = unscored
 scoredIf (someScore x) ts = scored ts x
 
-module _ (d : Detector) (f : GivenFrame) (ts : Timestamp) (m : Memory) where
+module _ (d : Detector) (u w h : ℕ) (p : Planes) (ts : Timestamp) (m : Memory) where
   abbrev pub after : Stream
-  after = streamAfter (d .stream) (pictureOptions (d .options)) f (m .store)
+  after = streamAfter (d .stream) (pictureOptions (d .options)) w h p (m .store)
 
   abbrev pub frameView : WindowCall
-  frameView = cond (eqb (frameNumber (badState d) f m) 0) (scoredIf (after .«last_score») ts) refused
+  frameView = cond (eqb (frameNumber (badState d) u w h m) 0) (scoredIf (after .«last_score») ts) refused
 
   step-acts : (x : MaybeScore) → turn (windowOptions (d .options)) (d .window) (scoredIf x ts) ≡ windowStep (d .options) (d .window) ts x
   step-acts noScore = refl
@@ -44,14 +45,14 @@ module _ (d : Detector) (f : GivenFrame) (ts : Timestamp) (m : Memory) where
   accepted-acts = step-acts (after .«last_score»)
 
   frame-acts : turn (windowOptions (d .options)) (d .window) frameView
-      ≡ turned (answeredBy (stepped d ts) (refusedAnswer d) (pictured (d .stream) (pictureOptions (d .options)) (badState d) f m .answer))
-  frame-acts = by-zero (eqb (frameNumber (badState d) f m) 0) refl
+      ≡ turned (answeredBy (stepped d ts) (refusedAnswer d) (pictured (d .stream) (pictureOptions (d .options)) (badState d) u w h p m .answer))
+  frame-acts = by-zero (eqb (frameNumber (badState d) u w h m) 0) refl
     where
-      by-zero : (b : Bool) → eqb (frameNumber (badState d) f m) 0 ≡ b
+      by-zero : (b : Bool) → eqb (frameNumber (badState d) u w h m) 0 ≡ b
           → turn (windowOptions (d .options)) (d .window) frameView
-          ≡ turned (answeredBy (stepped d ts) (refusedAnswer d) (pictured (d .stream) (pictureOptions (d .options)) (badState d) f m .answer))
-      by-zero true e = rw (e, if-accepted (d .stream) (pictureOptions (d .options)) (badState d) (stepped d ts) (refusedAnswer d) f m e) accepted-acts
-      by-zero false e = rw (e, if-refused (d .stream) (pictureOptions (d .options)) (badState d) (stepped d ts) (refusedAnswer d) f m e)
+          ≡ turned (answeredBy (stepped d ts) (refusedAnswer d) (pictured (d .stream) (pictureOptions (d .options)) (badState d) u w h p m .answer))
+      by-zero true e = rw (e, if-accepted (d .stream) (pictureOptions (d .options)) (badState d) (stepped d ts) (refusedAnswer d) u w h p m e) accepted-acts
+      by-zero false e = rw (e, if-refused (d .stream) (pictureOptions (d .options)) (badState d) (stepped d ts) (refusedAnswer d) u w h p m e)
 
 -- a call, at the state that it finds
 abbrev pub viewOf : Detector → Call → WindowCall
@@ -59,9 +60,9 @@ viewOf d c = byCall (frameView d) clearCall c
 
 module _ (o : Options) (ok : optionsRefusal o ≡ 0) where
   own-acts : (d : Detector) (c : Call) → Good o d → turn (windowOptions (d .options)) (d .window) (viewOf d c) ≡ turned (called d c .answer)
-  own-acts d (luma plane w h stride ts m) g = frame-acts d (givenLuma plane w h stride) ts m
-  own-acts d (bgr pixels w h stride ts m) g = frame-acts d (givenBgr pixels w h stride) ts m
-  own-acts d (hsv hs ss vs w h stride ts m) g = frame-acts d (givenHsv hs ss vs w h stride) ts m
+  own-acts d (luma plane w h stride ts m) g = frame-acts d _ _ _ _ ts m
+  own-acts d (bgr pixels w h stride ts m) g = frame-acts d _ _ _ _ ts m
+  own-acts d (hsv hs ss vs w h stride ts m) g = frame-acts d _ _ _ _ ts m
   own-acts d clear g = rw (clear-is o ok d g)
 
   pub acts : (d : Detector) (c : Call) → Good o d → turn (windowOptions o) (d .window) (viewOf d c) ≡ turned (called d c .answer)

@@ -19,7 +19,7 @@ adaptiveRun o calls = runFrom called (λ (a : Answer). a .detector) (fresh o) ca
 
 -- the cut or none that a call answered, before the parts of those after it: a clear ends its part
 abbrev pub withAnswer : Call → MaybeTimestamp → List (List MaybeTimestamp) → List (List MaybeTimestamp)
-withAnswer c a parts = byCall (λ f ts m. joinedPart a parts) ((a ∷ []) ∷ parts) c
+withAnswer c a parts = byCall (λ u w h p ts m. joinedPart a parts) ((a ∷ []) ∷ parts) c
 
 -- the cuts or none that the calls answered, from clear to clear
 abbrev pub fromClearToClear : List (MadeCall Answer) → List (List MaybeTimestamp)

@@ -26,13 +26,8 @@ filterStep o φ ts (someScore x) = flashFilter (filterOptions o) φ ts (le (o .t
 unfoldable pub stepped : Detector → Timestamp → Stream → Answer
 stepped d ts s =
     let step : FilterStep = filterStep (d .options) (d .filter) ts (s .«last_score») in
-    record {
-      number = 0;
-      detector = record { options = d .options; stream = s; filter = step .filter };
-      cut = step .cut;
-      score = s .«last_score»;
-      components = componentsShown (s .«last_components»);
-    }
+    let after : Detector = record { options = d .options; stream = s; filter = step .filter } in
+    record { number = 0; detector = after; cut = step .cut; score = s .«last_score»; components = componentsShown (s .«last_components») }
 
 -- a call: what it answers, with the state that it returns, and the store after it
 abbrev pub called : Detector → Call → Outcome Answer

@@ -11,7 +11,7 @@ use Rattle.content.specs.declared.Options.{Options}
 use Rattle.content.specs.declared.Detector.{Detector}
 use Rattle.content.specs.declared.Answer.{Answer}
 use Rattle.content.specs.Options.{filterOptions, pictureOptions, optionsRefusal}
-use Rattle.content.specs.State.{fresh, badFilter, badState, refusedAnswer, cleared, clearedAnswer}
+use Rattle.content.specs.State.{stateOf, fresh, badFilter, badState, refusedAnswer, clearedAnswer}
 use Rattle.content.specs.Step.{filterStep, stepped}
 use Rattle.content_claim.proofs.Triggered.{flash-keeps}
 
@@ -33,7 +33,7 @@ module _ (o : Options) (ok : optionsRefusal o ≡ 0) where
   unfolding badState
   not-bad d g = rw (g .options, ok, g .sides, g .filter)
 
-  pub clear-is : (d : Detector) → Good o d → clearedAnswer d ≡ refusedAnswer (cleared d) 0
+  pub clear-is : (d : Detector) → Good o d → clearedAnswer d ≡ refusedAnswer (stateOf (d .options) (d .stream .width) (d .stream .height)) 0
   unfolding clearedAnswer
   clear-is d g = rw (not-bad d g)
 

@@ -8,9 +8,10 @@ use lib.Ieee.{Float, le}
 use Rattle.timestamp.specs.declared.MaybeTimestamp.{MaybeTimestamp}
 use Rattle.score.specs.Scores.{scoreOf}
 use Rattle.stream.specs.Sums.{componentsOf}
+use Rattle.scoring.specs.Planes.{Planes}
 use Rattle.filter.specs.Calls.{FilterCall, refused, frame, clear, Answered, _brought_}
 use Rattle.filter.specs.Claim.{StretchesHold}
-use Rattle.frame_call.specs.Call.{Call, GivenFrame, byCall, sumsOf}
+use Rattle.frame_call.specs.Call.{Call, byCall, sumsOf}
 use Rattle.frame_call.specs.Run.{isRefused, MadeCall, runFrom, RunClaim}
 use Rattle.content.specs.declared.Options.{Options}
 use Rattle.content.specs.declared.Answer.{Answer}
@@ -19,15 +20,15 @@ use Rattle.content.specs.State.{fresh, settled}
 use Rattle.content.specs.Step.{called}
 
 -- the score of a frame under these settings, with the store as its call finds it
-unfoldable pub frameScore : Options → GivenFrame → (store : List ℕ) → Float
-frameScore o f store = scoreOf (componentsOf (sumsOf (pictureOptions o) true (f .width) (f .height) (f .planes) store)) (o .weights)
+unfoldable pub frameScore : Options → (width height : ℕ) → Planes → (store : List ℕ) → Float
+frameScore o w h p store = scoreOf (componentsOf (sumsOf (pictureOptions o) true w h p store)) (o .weights)
 
 -- A call as `filter`'s claim sees it: refused; a frame with its size, its stamp, and whether its score is at or over the threshold, which is
 -- not asked of the first frame of a stretch; or a clear.
 abbrev pub viewOf : Options → Call → FilterCall
 viewOf o c =
     byCall
-    (λ f ts m. cond (isRefused c) refused (frame (f .width) (f .height) (record { stamp = ts; above = le (o .threshold) (frameScore o f (m .store)) })))
+    (λ u w h p ts m. cond (isRefused c) refused (frame w h (record { stamp = ts; above = le (o .threshold) (frameScore o w h p (m .store)) })))
     clear
     c
 

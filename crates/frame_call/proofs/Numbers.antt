@@ -9,7 +9,7 @@ use Rattle.frame.specs.Refusal.{firstThat}
 use Rattle.frame.specs.Checks.{tooLarge, tooShort, planeRefusal, lumaRefusal, bgrRefusal, hsvRefusal}
 use Rattle.stream.specs.Stream.{memoryRefusal}
 use Rattle.laws.specs.Lists.{All}
-use Rattle.frame_call.specs.Call.{Memory, Call, luma, bgr, hsv, clear, GivenFrame, givenLuma, givenBgr, givenHsv, callRefusal, frameNumber}
+use Rattle.frame_call.specs.Call.{Memory, Call, luma, bgr, hsv, clear, callRefusal, frameNumber}
 use Rattle.frame_call.specs.Run.{ownNumber}
 
 abbrev Below : List (Bool × ℕ) → Type 0
@@ -41,16 +41,16 @@ memory-below store scratch magnitudes w h =
     (omega arith, (omega arith, (omega arith, tt)))
 
 -- of a frame whose own number is below 15
-frame-below : (f : GivenFrame) (m : Memory) → f .refusal < 15 → frameNumber false f m < 15
+frame-below : (u w h : ℕ) (m : Memory) → u < 15 → frameNumber false u w h m < 15
 unfolding callRefusal
-frame-below f m p =
-    let n = memoryRefusal (length (m .store)) (length (m .scratch)) (length (m .magnitudes)) (f .width) (f .height) in
-    first-below ((not (eqb (f .refusal) 0), f .refusal) ∷ (not (eqb n 0), n) ∷ [])
-    (p, (memory-below (length (m .store)) (length (m .scratch)) (length (m .magnitudes)) (f .width) (f .height), tt))
+frame-below u w h m p =
+    let n = memoryRefusal (length (m .store)) (length (m .scratch)) (length (m .magnitudes)) w h in
+    first-below ((not (eqb u 0), u) ∷ (not (eqb n 0), n) ∷ [])
+    (p, (memory-below (length (m .store)) (length (m .scratch)) (length (m .magnitudes)) w h, tt))
 
 pub own-below : (c : Call) → ownNumber c < 15
 unfolding lumaRefusal bgrRefusal
-own-below (luma plane w h stride ts m) = frame-below (givenLuma plane w h stride) m (plane-below w (length plane) w h stride)
-own-below (bgr pixels w h stride ts m) = frame-below (givenBgr pixels w h stride) m (plane-below (3 * w) (length pixels) w h stride)
-own-below (hsv hs ss vs w h stride ts m) = frame-below (givenHsv hs ss vs w h stride) m (hsv-below (length hs) (length ss) (length vs) w h stride)
+own-below (luma plane w h stride ts m) = frame-below (lumaRefusal (length plane) w h stride) w h m (plane-below w (length plane) w h stride)
+own-below (bgr pixels w h stride ts m) = frame-below (bgrRefusal (length pixels) w h stride) w h m (plane-below (3 * w) (length pixels) w h stride)
+own-below (hsv hs ss vs w h stride ts m) = frame-below (hsvRefusal (length hs) (length ss) (length vs) w h stride) w h m (hsv-below (length hs) (length ss) (length vs) w h stride)
 own-below clear = omega arith

@@ -13,19 +13,19 @@ use Rattle.stream.specs.declared.Stream.{Stream}
 use Rattle.scoring.specs.Planes.{Planes, joined, planesIn}
 use Rattle.frame_call.specs.declared.PictureOptions.{PictureOptions}
 use Rattle.frame_call.specs.declared.Picture.{Picture}
-use Rattle.frame_call.specs.Call.{Memory, GivenFrame, frameNumber, Outcome, accepted, refusedPicture, pictured, answeredBy, outcomeOf, luma, memory, Called}
+use Rattle.frame_call.specs.Call.{Memory, frameNumber, Outcome, accepted, refusedPicture, pictured, answeredBy, outcomeOf, luma, memory, Called}
 use Rattle.frame_call.proofs.Filled.{Sized, planes-of}
 
-module _ (s : Stream) (o : PictureOptions) (bad : Bool) (f : GivenFrame) (m : Memory) where
-  is-refused : (frameNumber bad f m ≡ 0 → ⊥) → pictured s o bad f m ≡ record { answer = refusedPicture s (frameNumber bad f m); store = m .store }
+module _ (s : Stream) (o : PictureOptions) (bad : Bool) (u w h : ℕ) (p : Planes) (m : Memory) where
+  is-refused : (frameNumber bad u w h m ≡ 0 → ⊥) → pictured s o bad u w h p m ≡ record { answer = refusedPicture s (frameNumber bad u w h m); store = m .store }
   unfolding pictured
-  is-refused n = rw (ne-eqb (frameNumber bad f m) 0 n)
+  is-refused n = rw (ne-eqb (frameNumber bad u w h m) 0 n)
 
-  is-accepted : frameNumber bad f m ≡ 0 → pictured s o bad f m ≡ accepted s o (f .width) (f .height) (f .planes) (m .store)
+  is-accepted : frameNumber bad u w h m ≡ 0 → pictured s o bad u w h p m ≡ accepted s o w h p (m .store)
   unfolding pictured
-  is-accepted z = rw (eq-eqb (frameNumber bad f m) 0 z)
+  is-accepted z = rw (eq-eqb (frameNumber bad u w h m) 0 z)
 
-  pub called-refused : (r : Picture) (n : ℕ) → r ≡ refusedPicture s n → n ≡ frameNumber bad f m → 0 < n → Called (pictured s o bad f m) r (r .number) m m
+  pub called-refused : (r : Picture) (n : ℕ) → r ≡ refusedPicture s n → n ≡ frameNumber bad u w h m → 0 < n → Called (pictured s o bad u w h p m) r (r .number) m m
   called-refused r n e q b =
       let u = is-refused (λ z. omega (arith, q)) in
       record {
@@ -36,22 +36,22 @@ module _ (s : Stream) (o : PictureOptions) (bad : Bool) (f : GivenFrame) (m : Me
         refused = λ _. refl;
       }
 
-  module _ (filled rest : List ℕ) (sized : Sized (f .width * f .height) (f .planes)) (e : filled ≡ joined (f .planes)) where
-    planes : planesIn (f .width * f .height) (filled ++ rest) ≡ f .planes
-    planes = ap (λ (l : List ℕ). planesIn (f .width * f .height) (l ++ rest)) e ∙ planes-of (f .width * f .height) (f .planes) rest sized
+  module _ (filled rest : List ℕ) (sized : Sized (w * h) p) (e : filled ≡ joined p) where
+    planes : planesIn (w * h) (filled ++ rest) ≡ p
+    planes = ap (λ (l : List ℕ). planesIn (w * h) (l ++ rest)) e ∙ planes-of (w * h) p rest sized
 
     abbrev took : Outcome Picture
-    took = accepted s o (f .width) (f .height) (planesIn (f .width * f .height) (filled ++ rest)) (m .store)
+    took = accepted s o w h (planesIn (w * h) (filled ++ rest)) (m .store)
 
     took-number : took .answer .number ≡ 0
     unfolding accepted
     took-number = refl
 
-    pub called-accepted : (r : Picture) (m′ : Memory) → frameNumber bad f m ≡ 0 → r ≡ took .answer → m′ .store ≡ took .store
+    pub called-accepted : (r : Picture) (m′ : Memory) → frameNumber bad u w h m ≡ 0 → r ≡ took .answer → m′ .store ≡ took .store
         → length (m′ .scratch) ≡ length (m .scratch) → length (m′ .magnitudes) ≡ length (m .magnitudes)
-        → Called (pictured s o bad f m) r (r .number) m m′
+        → Called (pictured s o bad u w h p m) r (r .number) m m′
     called-accepted r m′ z a b l₁ l₂ =
-        let q : took ≡ pictured s o bad f m = ap (λ (x : Planes). accepted s o (f .width) (f .height) x (m .store)) planes ∙ sym (is-accepted z) in
+        let q : took ≡ pictured s o bad u w h p m = ap (λ (x : Planes). accepted s o w h x (m .store)) planes ∙ sym (is-accepted z) in
         record {
           answered = a ∙ ap (λ (x : Outcome Picture). x .answer) q;
           stored = b ∙ ap (λ (x : Outcome Picture). x .store) q;

@@ -37,39 +37,20 @@ pub data Call : Type 0 where
   hsv : (hue saturation value : List ℕ) (width height stride : ℕ) → Timestamp → Memory → Call
   clear : Call
 
--- a frame as it is given: the number of its own refusal or 0, its sides, and its planes
-pub record GivenFrame : Type 0 where
-  pub refusal : ℕ
-  pub width : ℕ
-  pub height : ℕ
-  pub planes : Planes
-
--- a luma, a BGR and an HSV frame
-abbrev pub givenLuma : (plane : List ℕ) (width height stride : ℕ) → GivenFrame
-givenLuma plane w h stride = record { refusal = lumaRefusal (length plane) w h stride; width = w; height = h; planes = lumaFrame plane w h stride }
-
-abbrev pub givenBgr : (pixels : List ℕ) (width height stride : ℕ) → GivenFrame
-givenBgr pixels w h stride = record { refusal = bgrRefusal (length pixels) w h stride; width = w; height = h; planes = bgrFrame pixels w h stride }
-
-abbrev pub givenHsv : (hue saturation value : List ℕ) (width height stride : ℕ) → GivenFrame
-givenHsv hs ss vs w h stride =
-    record { refusal = hsvRefusal (length hs) (length ss) (length vs) w h stride; width = w; height = h; planes = hsvFrame hs ss vs w h stride }
-
--- by cases on a call: `f` of a frame call's frame, stamp and memory, and c for `clear`
-abbrev pub byCall : {A : Type 0} → (f : GivenFrame → Timestamp → Memory → A) → (c : A) → Call → A
-byCall f c (luma plane w h stride ts m) = f (givenLuma plane w h stride) ts m
-byCall f c (bgr pixels w h stride ts m) = f (givenBgr pixels w h stride) ts m
-byCall f c (hsv hs ss vs w h stride ts m) = f (givenHsv hs ss vs w h stride) ts m
+-- by cases on a call: of a frame call `f`, by the number of the frame's own refusal or 0, its sides, planes and stamp, and the memory; c for `clear`
+abbrev pub byCall : {A : Type 0} → (f : (refusal width height : ℕ) → Planes → Timestamp → Memory → A) → (c : A) → Call → A
+byCall f c (luma plane w h stride ts m) = f (lumaRefusal (length plane) w h stride) w h (lumaFrame plane w h stride) ts m
+byCall f c (bgr pixels w h stride ts m) = f (bgrRefusal (length pixels) w h stride) w h (bgrFrame pixels w h stride) ts m
+byCall f c (hsv hs ss vs w h stride ts m) = f (hsvRefusal (length hs) (length ss) (length vs) w h stride) w h (hsvFrame hs ss vs w h stride) ts m
 byCall f c clear = c
 
 -- the first refusal of a frame call, or 0: 15 for a bad state, then the frame's own number, then that of the memory
 unfoldable pub callRefusal : (bad : Bool) (frame memory : ℕ) → ℕ
 callRefusal bad f m = firstThat ((bad, 15) ∷ (not (eqb f 0), f) ∷ (not (eqb m 0), m) ∷ [])
 
--- that of a frame with the memory that is lent for it
-abbrev pub frameNumber : (bad : Bool) → GivenFrame → Memory → ℕ
-frameNumber bad f m =
-    callRefusal bad (f .refusal) (memoryRefusal (length (m .store)) (length (m .scratch)) (length (m .magnitudes)) (f .width) (f .height))
+-- that of a frame with this refusal of its own and these sides, and the memory that is lent for it
+abbrev pub frameNumber : (bad : Bool) (refusal width height : ℕ) → Memory → ℕ
+frameNumber bad u w h m = callRefusal bad u (memoryRefusal (length (m .store)) (length (m .scratch)) (length (m .magnitudes)) w h)
 
 -- what a call brings: an answer, and the store after it
 pub record Outcome (A : Type 0) : Type 0 where
@@ -84,30 +65,29 @@ sumsOf o scored w h p store = frameSums (edgesEnabled (o .weights)) scored (kern
 unfoldable pub accepted : Stream → PictureOptions → (width height : ℕ) → Planes → (store : List ℕ) → Outcome Picture
 accepted s o w h p store =
     let sums : Sums = sumsOf o (isScored s w h) w h p store in
-    record {
-      answer = record { number = 0; stream = nextStream s w h (o .weights) sums; sums = sums };
-      store = storeAfter (edgesEnabled (o .weights)) (kernelOf (o .«kernel_size») w h) w h p store;
-    }
+    let after : List ℕ = storeAfter (edgesEnabled (o .weights)) (kernelOf (o .«kernel_size») w h) w h p store in
+    record { answer = record { number = 0; stream = nextStream s w h (o .weights) sums; sums = sums }; store = after }
 
 -- a frame refused by this number: the stream is as it was, and there are no sums
 abbrev pub refusedPicture : Stream → (number : ℕ) → Picture
 refusedPicture s n = record { number = n; stream = s; sums = noSums }
 
 -- a frame, accepted or refused; refused, the store is as it was
-unfoldable pub pictured : Stream → PictureOptions → (bad : Bool) → GivenFrame → Memory → Outcome Picture
-pictured s o bad f m =
-    let n = frameNumber bad f m in
-    cond (eqb n 0) (accepted s o (f .width) (f .height) (f .planes) (m .store)) (record { answer = refusedPicture s n; store = m .store })
+unfoldable pub pictured : Stream → PictureOptions → (bad : Bool) (refusal width height : ℕ) → Planes → Memory → Outcome Picture
+pictured s o bad u w h p m =
+    let n = frameNumber bad u w h m in
+    cond (eqb n 0) (accepted s o w h p (m .store)) (record { answer = refusedPicture s n; store = m .store })
 
 -- a detector's answer to a frame: `stepped` of the stream after an accepted one, `refused` of a refusal's number
 abbrev pub answeredBy : {A : Type 0} → (stepped : Stream → A) → (refused : ℕ → A) → Picture → A
 answeredBy stepped refused p = cond (eqb (p .number) 0) (stepped (p .stream)) (refused (p .number))
 
--- a detector's call at this stream, under these settings, with a state that is bad or not. `clear`, which is lent no memory, is answered by `cleared`.
+-- A detector's call at this stream, under these settings, at a state that is bad or not. `cleared` is the answer to `clear`, which is lent no
+-- memory.
 abbrev pub outcomeOf : {A : Type 0} → Stream → PictureOptions → (bad : Bool) → (stepped : Timestamp → Stream → A) → (refused : ℕ → A) → (cleared : A) → Call → Outcome A
 outcomeOf s o bad stepped refused cleared c =
     byCall
-    (λ f ts m. record { answer = answeredBy (stepped ts) refused (pictured s o bad f m .answer); store = pictured s o bad f m .store })
+    (λ u w h p ts m. record { answer = answeredBy (stepped ts) refused (pictured s o bad u w h p m .answer); store = pictured s o bad u w h p m .store })
     (record { answer = cleared; store = [] })
     c
 

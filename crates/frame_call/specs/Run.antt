@@ -9,7 +9,7 @@ use Rattle.frame_call.specs.Call.{Call, byCall, frameNumber, Outcome}
 
 -- the number by which a call is refused for itself, or 0: that at a state which is not bad. `clear` has none.
 abbrev pub ownNumber : Call → ℕ
-ownNumber c = byCall (λ f ts m. frameNumber false f m) 0 c
+ownNumber c = byCall (λ u w h p ts m. frameNumber false u w h m) 0 c
 
 -- a call that is refused for itself
 abbrev pub isRefused : Call → Bool

@@ -4,8 +4,9 @@ ghost use mathlib.Core.Path.{_≡_};
 ghost use Prim.Native.Nat.{_+_, _*_, _≤_};
 ghost use lib.ListN.{length};
 ghost use Rattle.stream.specs.Stream.{memoryRefusal};
-ghost use Rattle.scoring.specs.Planes.{planesIn};
-ghost use Rattle.frame_call.specs.Call.{memory, givenLuma, givenBgr, givenHsv, callRefusal, accepted, refusedPicture, pictured, Called};
+ghost use Rattle.frame.specs.Checks.{lumaRefusal, bgrRefusal, hsvRefusal};
+ghost use Rattle.scoring.specs.Planes.{lumaFrame, bgrFrame, hsvFrame, planesIn};
+ghost use Rattle.frame_call.specs.Call.{memory, callRefusal, accepted, refusedPicture, pictured, Called};
 use score::Components;
 use score::KernelSize;
 use stream::Stream;
@@ -117,7 +118,7 @@ pub fn process_luma(
     scratch: &mut [u8],
     magnitudes: &mut [i32],
 ) -> Picture
-    ensures { λ r. ⌜ Called (pictured s o bad (givenLuma (now (plane .entry)) width height stride) (memory (now (store .entry)) (now (scratch .entry)) (now (magnitudes .entry)))) r (r .number) (memory (now (store .entry)) (now (scratch .entry)) (now (magnitudes .entry))) (memory (now (store .exit)) (now (scratch .exit)) (now (magnitudes .exit))) ⌝ }
+    ensures { λ r. ⌜ Called (pictured s o bad (lumaRefusal (length (now (plane .entry))) width height stride) width height (lumaFrame (now (plane .entry)) width height stride) (memory (now (store .entry)) (now (scratch .entry)) (now (magnitudes .entry)))) r (r .number) (memory (now (store .entry)) (now (scratch .entry)) (now (magnitudes .entry))) (memory (now (store .exit)) (now (scratch .exit)) (now (magnitudes .exit))) ⌝ }
 {
     let frame = frame::luma_refusal(plane.len(), width, height, stride);
     let luma_number = call_refusal(
@@ -152,7 +153,7 @@ pub fn process_bgr(
     scratch: &mut [u8],
     magnitudes: &mut [i32],
 ) -> Picture
-    ensures { λ r. ⌜ Called (pictured s o bad (givenBgr (now (pixels .entry)) width height stride) (memory (now (store .entry)) (now (scratch .entry)) (now (magnitudes .entry)))) r (r .number) (memory (now (store .entry)) (now (scratch .entry)) (now (magnitudes .entry))) (memory (now (store .exit)) (now (scratch .exit)) (now (magnitudes .exit))) ⌝ }
+    ensures { λ r. ⌜ Called (pictured s o bad (bgrRefusal (length (now (pixels .entry))) width height stride) width height (bgrFrame (now (pixels .entry)) width height stride) (memory (now (store .entry)) (now (scratch .entry)) (now (magnitudes .entry)))) r (r .number) (memory (now (store .entry)) (now (scratch .entry)) (now (magnitudes .entry))) (memory (now (store .exit)) (now (scratch .exit)) (now (magnitudes .exit))) ⌝ }
 {
     let frame = frame::bgr_refusal(pixels.len(), width, height, stride);
     let bgr_number = call_refusal(
@@ -189,7 +190,7 @@ pub fn process_hsv(
     scratch: &mut [u8],
     magnitudes: &mut [i32],
 ) -> Picture
-    ensures { λ r. ⌜ Called (pictured s o bad (givenHsv (now (hue .entry)) (now (saturation .entry)) (now (value .entry)) width height stride) (memory (now (store .entry)) (now (scratch .entry)) (now (magnitudes .entry)))) r (r .number) (memory (now (store .entry)) (now (scratch .entry)) (now (magnitudes .entry))) (memory (now (store .exit)) (now (scratch .exit)) (now (magnitudes .exit))) ⌝ }
+    ensures { λ r. ⌜ Called (pictured s o bad (hsvRefusal (length (now (hue .entry))) (length (now (saturation .entry))) (length (now (value .entry))) width height stride) width height (hsvFrame (now (hue .entry)) (now (saturation .entry)) (now (value .entry)) width height stride) (memory (now (store .entry)) (now (scratch .entry)) (now (magnitudes .entry)))) r (r .number) (memory (now (store .entry)) (now (scratch .entry)) (now (magnitudes .entry))) (memory (now (store .exit)) (now (scratch .exit)) (now (magnitudes .exit))) ⌝ }
 {
     let frame = frame::hsv_refusal(
         hue.len(),

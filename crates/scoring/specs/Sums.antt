@@ -24,13 +24,11 @@ planeSums n p e store =
     let luma = sumAbsDiff (p .luma) (lumaPart n store) in
     record { hue = hue; saturation = saturation; luma = luma; edges = e; count = n }
 
--- the edge sum: with edges on that of the edge planes, and else 0
-abbrev pub edgeSum : Bool → ℕ → ℕ → ℕ → Planes → List ℕ → ℕ
-edgeSum edges k w h p store = cond edges (sumAbsDiff (edgePlane (p .luma) w h k) (edgePart (w * h) store)) 0
-
--- the sums of an accepted frame of w columns and h rows; none where it is the first of its stretch
+-- the sums of an accepted frame of w columns and h rows, with an edge sum where edges are on; none where it is the first of its stretch
 unfoldable pub frameSums : (edges scored : Bool) (k w h : ℕ) → Planes → List ℕ → Sums
-frameSums edges scored k w h p store = cond scored (planeSums (w * h) p (edgeSum edges k w h p store) store) noSums
+frameSums edges scored k w h p store =
+    let edge = cond edges (sumAbsDiff (edgePlane (p .luma) w h k) (edgePart (w * h) store)) 0 in
+    cond scored (planeSums (w * h) p edge store) noSums
 
 -- the store after it: the frame's planes, then its edge plane, which stays as it was with edges off; the bytes after these never change
 unfoldable pub storeAfter : (edges : Bool) (k w h : ℕ) → Planes → List ℕ → List ℕ

@@ -26,13 +26,10 @@ isScored s w h = eqb (s .width) w && eqb (s .height) h && s .«has_previous»
 -- after an accepted frame with these sums of differences: a scored frame has a score and components, the first of a stretch has neither
 unfoldable pub nextStream : Stream → ℕ → ℕ → Components → Sums → Stream
 nextStream s w h weights sums =
-    record {
-      «has_previous» = true;
-      «last_score» = cond (isScored s w h) (someScore (scoreOf (componentsOf sums) weights)) noScore;
-      «last_components» = cond (isScored s w h) (someComponents (componentsOf sums)) noComponents;
-      width = w;
-      height = h;
-    }
+    let deltas : Components = componentsOf sums in
+    let score : MaybeScore = cond (isScored s w h) (someScore (scoreOf deltas weights)) noScore in
+    let shown : MaybeComponents = cond (isScored s w h) (someComponents deltas) noComponents in
+    record { «has_previous» = true; «last_score» = score; «last_components» = shown; width = w; height = h }
 
 -- the components that an answer shows: four times 0.0 where there are none
 abbrev pub componentsShown : MaybeComponents → Components
@@ -43,8 +40,4 @@ componentsShown (someComponents c) = c
 -- numbers. Edges need not be on.
 unfoldable pub memoryRefusal : (store scratch magnitudes width height : ℕ) → ℕ
 memoryRefusal store scratch magnitudes w h =
-    firstThat
-    ((ltb store (4 * (w * h)), 12) ∷
-    (ltb scratch (7 * (w * h) + 2 * max w h), 13) ∷
-    (ltb magnitudes (w * h), 14) ∷
-    [])
+    firstThat ((ltb store (4 * (w * h)), 12) ∷ (ltb scratch (7 * (w * h) + 2 * max w h), 13) ∷ (ltb magnitudes (w * h), 14) ∷ [])
