@@ -25,9 +25,7 @@ fresh o = stateOf o 0 0
 -- 15: the settings would be refused, a side exceeds 4,096, or the window's count exceeds 2 × width + 1
 unfoldable pub badState : Detector → Bool
 badState d =
-    not (eqb (optionsRefusal (d .options)) 0)
-    || tooLarge (d .stream .width) (d .stream .height)
-    || ltb (2 * d .options .«window_width» + 1) (d .window .count)
+    not (eqb (optionsRefusal (d .options)) 0) || tooLarge (d .stream .width) (d .stream .height) || ltb (2 * d .options .«window_width» + 1) (d .window .count)
 
 -- a settings call: refused, a fresh record of the defaults; accepted, a fresh state
 unfoldable pub settled : Options → Settled

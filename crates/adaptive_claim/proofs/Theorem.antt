@@ -18,7 +18,7 @@ use Rattle.window.specs.Calls.{refused, Answered, _brought_}
 use Rattle.window.specs.Claim.{joinedPart, fromClearToClear as windowParts}
 use Rattle.window.specs.Seen.{seenByWindow}
 use Rattle.window.proofs.Acts.{acts-holds}
-use Rattle.frame_call.specs.Call.{Memory, Call, luma, bgr, hsv, clear, frameNumber}
+use Rattle.frame_call.specs.Call.{Memory, Call, luma, bgr, hsv, clear, byCall, frameNumber}
 use Rattle.frame_call.specs.Run.{runFrom}
 use Rattle.frame_call.proofs.Runs.{run-claim, stays as runs-stay}
 use Rattle.adaptive.specs.declared.Options.{Options}
@@ -27,12 +27,16 @@ use Rattle.adaptive.specs.declared.Answer.{Answer}
 use Rattle.adaptive.specs.Options.{defaults, windowOptions, innerRefusal, optionsRefusal}
 use Rattle.adaptive.specs.State.{fresh, badState, settled}
 use Rattle.adaptive.specs.Step.{called}
-use Rattle.adaptive_claim.specs.Claim.{adaptiveRun, withAnswer, fromClearToClear, AdaptiveClaim}
+use Rattle.adaptive_claim.specs.Claim.{adaptiveRun, fromClearToClear, AdaptiveClaim}
 use Rattle.adaptive_claim.proofs.Good.{Good, fresh-good, laws}
 use Rattle.adaptive_claim.proofs.Views.{scoredIf, after, frameView, viewOf, acts}
 
 abbrev next : Detector → Call → Detector
 next d c = called d c .answer .detector
+
+-- an answer, before the parts of those after it
+abbrev withAnswer : Call → MaybeTimestamp → List (List MaybeTimestamp) → List (List MaybeTimestamp)
+withAnswer c a parts = byCall (λ u w h p ts m. joinedPart a parts) ((a ∷ []) ∷ parts) c
 
 -- ---- the run, as `window`'s law sees it: both divide at the clears
 

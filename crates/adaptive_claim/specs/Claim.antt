@@ -17,14 +17,12 @@ use Rattle.adaptive.specs.Step.{called}
 abbrev pub adaptiveRun : Options → List Call → List (MadeCall Answer)
 adaptiveRun o calls = runFrom called (λ (a : Answer). a .detector) (fresh o) calls
 
--- the cut or none that a call answered, before the parts of those after it: a clear ends its part
-abbrev pub withAnswer : Call → MaybeTimestamp → List (List MaybeTimestamp) → List (List MaybeTimestamp)
-withAnswer c a parts = byCall (λ u w h p ts m. joinedPart a parts) ((a ∷ []) ∷ parts) c
-
--- the cuts or none that the calls answered, from clear to clear
+-- the cuts or none that the calls answered, from clear to clear: the answer of a clear ends its part
 abbrev pub fromClearToClear : List (MadeCall Answer) → List (List MaybeTimestamp)
 fromClearToClear [] = [] ∷ []
-fromClearToClear (m ∷ ms) = withAnswer (m .call) (m .outcome .answer .cut) (fromClearToClear ms)
+fromClearToClear (x ∷ xs) =
+    let cut = x .outcome .answer .cut in
+    byCall (λ u w h p ts m. joinedPart cut (fromClearToClear xs)) ((cut ∷ []) ∷ fromClearToClear xs) (x .call)
 
 -- the claim, of a list of adaptive calls under settings that a settings call accepts
 pub record AdaptiveClaim (o : Options) (calls : List Call) : Type 0 where

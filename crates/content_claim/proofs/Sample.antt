@@ -14,8 +14,7 @@ use Rattle.arch_planes.specs.Difference.{sumAbsDiff, meanOf}
 use Rattle.arch_planes.specs.Packed.{packed}
 use Rattle.score.specs.Scores.{sumAbs, weighed, scoreOf, edgesEnabled}
 use Rattle.score.specs.Settings.{settingsRefusal, anyTooHeavy, tooHeavy, allZero}
-use Rattle.stream.specs.Sums.{componentsOf}
-use Rattle.stream.specs.Stream.{isScored, nextStream, memoryRefusal}
+use Rattle.stream.specs.Stream.{componentsOf, isScored, nextStream, memoryRefusal}
 use Rattle.scoring.specs.Planes.{lumaFrame}
 use Rattle.scoring.specs.Sums.{frameSums}
 use Rattle.filter.specs.Calls.{FilterCall, refused, frame}

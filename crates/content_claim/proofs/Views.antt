@@ -8,8 +8,7 @@ use lib.Ieee.{le}
 use Rattle.timestamp.specs.declared.Timestamp.{Timestamp}
 use Rattle.score.specs.declared.MaybeScore.the-variants.{None as noScore, Some as someScore}
 use Rattle.score.specs.Scores.{scoreOf}
-use Rattle.stream.specs.Sums.{componentsOf}
-use Rattle.stream.specs.Stream.{isScored, nextStream}
+use Rattle.stream.specs.Stream.{componentsOf, isScored, nextStream}
 use Rattle.scoring.specs.Planes.{Planes}
 use Rattle.filter.specs.declared.FilterStep.{FilterStep}
 use Rattle.filter.specs.Calls.{Frame, refused, frame, State, Turn, filtered, turnTo, turn}

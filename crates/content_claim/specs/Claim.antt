@@ -7,7 +7,7 @@ use Prim.Native.Nat.{ℕ}
 use lib.Ieee.{Float, le}
 use Rattle.timestamp.specs.declared.MaybeTimestamp.{MaybeTimestamp}
 use Rattle.score.specs.Scores.{scoreOf}
-use Rattle.stream.specs.Sums.{componentsOf}
+use Rattle.stream.specs.Stream.{componentsOf}
 use Rattle.scoring.specs.Planes.{Planes}
 use Rattle.filter.specs.Calls.{FilterCall, refused, frame, clear, Answered, _brought_}
 use Rattle.filter.specs.Claim.{StretchesHold}
@@ -27,10 +27,7 @@ frameScore o w h p store = scoreOf (componentsOf (sumsOf (pictureOptions o) true
 -- not asked of the first frame of a stretch; or a clear.
 abbrev pub viewOf : Options → Call → FilterCall
 viewOf o c =
-    byCall
-    (λ u w h p ts m. cond (isRefused c) refused (frame w h (record { stamp = ts; above = le (o .threshold) (frameScore o w h p (m .store)) })))
-    clear
-    c
+    byCall (λ u w h p ts m. cond (isRefused c) refused (frame w h (record { stamp = ts; above = le (o .threshold) (frameScore o w h p (m .store)) }))) clear c
 
 -- the calls of a list, from a fresh state
 abbrev pub contentRun : Options → List Call → List (MadeCall Answer)

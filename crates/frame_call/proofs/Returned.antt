@@ -10,11 +10,16 @@ use lib.ListN.{length}
 use borrow.Author.Tests.{eq-eqb, ne-eqb}
 use Rattle.timestamp.specs.declared.Timestamp.{Timestamp}
 use Rattle.stream.specs.declared.Stream.{Stream}
+use Rattle.stream.specs.Stream.{noSums}
 use Rattle.scoring.specs.Planes.{Planes, joined, planesIn}
 use Rattle.frame_call.specs.declared.PictureOptions.{PictureOptions}
 use Rattle.frame_call.specs.declared.Picture.{Picture}
-use Rattle.frame_call.specs.Call.{Memory, frameNumber, Outcome, accepted, refusedPicture, pictured, answeredBy, outcomeOf, luma, memory, Called}
+use Rattle.frame_call.specs.Call.{Memory, frameNumber, Outcome, accepted, pictured, answeredBy, outcomeOf, luma, memory, Called}
 use Rattle.frame_call.proofs.Filled.{Sized, planes-of}
+
+-- refused by this number
+abbrev refusedPicture : Stream → (number : ℕ) → Picture
+refusedPicture s n = record { number = n; stream = s; sums = noSums }
 
 module _ (s : Stream) (o : PictureOptions) (bad : Bool) (u w h : ℕ) (p : Planes) (m : Memory) where
   is-refused : (frameNumber bad u w h m ≡ 0 → ⊥) → pictured s o bad u w h p m ≡ record { answer = refusedPicture s (frameNumber bad u w h m); store = m .store }

@@ -13,8 +13,7 @@ use Rattle.frame.specs.Checks.{lumaRefusal, bgrRefusal, hsvRefusal}
 use Rattle.score.specs.Scores.{edgesEnabled}
 use Rattle.stream.specs.declared.Stream.{Stream}
 use Rattle.stream.specs.declared.Sums.{Sums}
-use Rattle.stream.specs.Sums.{noSums}
-use Rattle.stream.specs.Stream.{isScored, nextStream, memoryRefusal}
+use Rattle.stream.specs.Stream.{noSums, isScored, nextStream, memoryRefusal}
 use Rattle.scoring.specs.Planes.{Planes, lumaFrame, bgrFrame, hsvFrame}
 use Rattle.scoring.specs.Sums.{kernelOf, frameSums, storeAfter}
 use Rattle.frame_call.specs.declared.PictureOptions.{PictureOptions}
@@ -68,28 +67,21 @@ accepted s o w h p store =
     let after : List ℕ = storeAfter (edgesEnabled (o .weights)) (kernelOf (o .«kernel_size») w h) w h p store in
     record { answer = record { number = 0; stream = nextStream s w h (o .weights) sums; sums = sums }; store = after }
 
--- a frame refused by this number: the stream is as it was, and there are no sums
-abbrev pub refusedPicture : Stream → (number : ℕ) → Picture
-refusedPicture s n = record { number = n; stream = s; sums = noSums }
-
--- a frame, accepted or refused; refused, the store is as it was
+-- a frame, accepted or refused: then there are no sums, and the stream and the store are as they were
 unfoldable pub pictured : Stream → PictureOptions → (bad : Bool) (refusal width height : ℕ) → Planes → Memory → Outcome Picture
 pictured s o bad u w h p m =
     let n = frameNumber bad u w h m in
-    cond (eqb n 0) (accepted s o w h p (m .store)) (record { answer = refusedPicture s n; store = m .store })
+    cond (eqb n 0) (accepted s o w h p (m .store)) (record { answer = record { number = n; stream = s; sums = noSums }; store = m .store })
 
 -- a detector's answer to a frame: `stepped` of the stream after an accepted one, `refused` of a refusal's number
 abbrev pub answeredBy : {A : Type 0} → (stepped : Stream → A) → (refused : ℕ → A) → Picture → A
 answeredBy stepped refused p = cond (eqb (p .number) 0) (stepped (p .stream)) (refused (p .number))
 
--- A detector's call at this stream, under these settings, at a state that is bad or not. `cleared` is the answer to `clear`, which is lent no
--- memory.
+-- a detector's call, by its stream, its settings and whether its state is bad; `cleared` answers `clear`, which is lent no memory
 abbrev pub outcomeOf : {A : Type 0} → Stream → PictureOptions → (bad : Bool) → (stepped : Timestamp → Stream → A) → (refused : ℕ → A) → (cleared : A) → Call → Outcome A
 outcomeOf s o bad stepped refused cleared c =
-    byCall
-    (λ u w h p ts m. record { answer = answeredBy (stepped ts) refused (pictured s o bad u w h p m .answer); store = pictured s o bad u w h p m .store })
-    (record { answer = cleared; store = [] })
-    c
+    byCall (λ u w h p ts m. let r = pictured s o bad u w h p m in record { answer = answeredBy (stepped ts) refused (r .answer); store = r .store })
+    (record { answer = cleared; store = [] }) c
 
 -- What a frame call promises: `o` is the outcome that the definition gives, `m` the memory at entry and `m′` at exit.
 pub record Called {A : Type 0} (o : Outcome A) (answer : A) (number : ℕ) (m m′ : Memory) : Type 0 where

@@ -3,10 +3,10 @@
 ghost use mathlib.Core.Path.{_≡_};
 ghost use Prim.Native.Nat.{_+_, _*_, _≤_};
 ghost use lib.ListN.{length};
-ghost use Rattle.stream.specs.Stream.{memoryRefusal};
+ghost use Rattle.stream.specs.Stream.{noSums, memoryRefusal};
 ghost use Rattle.frame.specs.Checks.{lumaRefusal, bgrRefusal, hsvRefusal};
 ghost use Rattle.scoring.specs.Planes.{lumaFrame, bgrFrame, hsvFrame, planesIn};
-ghost use Rattle.frame_call.specs.Call.{memory, callRefusal, accepted, refusedPicture, pictured, Called};
+ghost use Rattle.frame_call.specs.Call.{memory, callRefusal, accepted, pictured, Called};
 use score::Components;
 use score::KernelSize;
 use stream::Stream;
@@ -50,7 +50,7 @@ fn call_refusal(
 
 // A refused frame.
 fn refuse(s: Stream, number: u32) -> Picture
-    ensures { λ r. ⌜ r ≡ refusedPicture s number ⌝ }
+    ensures { λ r. ⌜ r ≡ record { number = number; stream = s; sums = noSums } ⌝ }
 {
     Picture {
         number: number,

@@ -7,7 +7,7 @@ use lib.ListN.{length, take}
 use Rattle.arch_planes.specs.Difference.{sumAbsDiff}
 use Rattle.canny.specs.Edges.{edgePlane}
 use Rattle.stream.specs.declared.Sums.{Sums}
-use Rattle.stream.specs.Sums.{noSums}
+use Rattle.stream.specs.Stream.{noSums}
 use Rattle.scoring.specs.Planes.{planesIn, lumaPart, edgePart, restPart}
 use Rattle.scoring.specs.Sums.{planeSums, frameSums, storeAfter}
 use Rattle.scoring.proofs.Memory.{kept, kept-luma, kept-edges, kept-is, edged-is}

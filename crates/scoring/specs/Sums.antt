@@ -8,7 +8,7 @@ use Rattle.canny.specs.Edges.{edgePlane}
 use Rattle.score.specs.declared.KernelSize.{KernelSize}
 use Rattle.score.specs.declared.KernelSize.the-variants.{Auto, Set}
 use Rattle.stream.specs.declared.Sums.{Sums}
-use Rattle.stream.specs.Sums.{noSums}
+use Rattle.stream.specs.Stream.{noSums}
 use Rattle.scoring.specs.Planes.{Planes, huePart, saturationPart, lumaPart, edgePart, restPart}
 
 -- the side of the edges' window: k as set, or by the frame's size
@@ -19,10 +19,8 @@ kernelOf (Set k) w h = k
 -- the sums of hue, saturation and luma over n pixels; the edge sum is e
 abbrev pub planeSums : ℕ → Planes → ℕ → List ℕ → Sums
 planeSums n p e store =
-    let hue = sumAbsDiff (p .hue) (huePart n store) in
-    let saturation = sumAbsDiff (p .saturation) (saturationPart n store) in
-    let luma = sumAbsDiff (p .luma) (lumaPart n store) in
-    record { hue = hue; saturation = saturation; luma = luma; edges = e; count = n }
+    let diff : List ℕ → List ℕ → ℕ = sumAbsDiff in
+    record { hue = diff (p .hue) (huePart n store); saturation = diff (p .saturation) (saturationPart n store); luma = diff (p .luma) (lumaPart n store); edges = e; count = n }
 
 -- the sums of an accepted frame of w columns and h rows, with an edge sum where edges are on; none where it is the first of its stretch
 unfoldable pub frameSums : (edges scored : Bool) (k w h : ℕ) → Planes → List ℕ → Sums

@@ -5,6 +5,7 @@ use Prim.Native.Nat.{ℕ, _+_, _*_, max}
 use lib.Dec.{eqb, ltb}
 use Rattle.laws.specs.Floats.{float}
 use Rattle.frame.specs.Refusal.{firstThat}
+use Rattle.arch_planes.specs.Difference.{meanOf}
 use Rattle.score.specs.declared.Components.{Components}
 use Rattle.score.specs.declared.MaybeScore.{MaybeScore}
 use Rattle.score.specs.declared.MaybeScore.the-variants.{None as noScore, Some as someScore}
@@ -13,7 +14,15 @@ use Rattle.score.specs.declared.MaybeComponents.the-variants.{None as noCompone
 use Rattle.score.specs.Scores.{components, scoreOf}
 use Rattle.stream.specs.declared.Stream.{Stream}
 use Rattle.stream.specs.declared.Sums.{Sums}
-use Rattle.stream.specs.Sums.{componentsOf}
+
+-- the sums of a frame that is not scored
+abbrev pub noSums : Sums
+noSums = record { hue = 0; saturation = 0; luma = 0; edges = 0; count = 0 }
+
+-- the components of a frame are means: each sum over the count
+unfoldable pub componentsOf : Sums → Components
+componentsOf s =
+    components (meanOf (s .hue) (s .count)) (meanOf (s .saturation) (s .count)) (meanOf (s .luma) (s .count)) (meanOf (s .edges) (s .count))
 
 -- before the first frame of a stretch
 abbrev pub freshStream : ℕ → ℕ → Stream

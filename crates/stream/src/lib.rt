@@ -1,8 +1,7 @@
 // What both detectors keep of the stream, the sums of a frame's differences, and refusals 12 to 14. Values go in and come out.
 ghost use mathlib.Core.Path.{_≡_};
 ghost use Prim.Native.Nat.{_≤_, max};
-ghost use Rattle.stream.specs.Sums.{componentsOf};
-ghost use Rattle.stream.specs.Stream.{freshStream, isScored, nextStream, componentsShown, memoryRefusal};
+ghost use Rattle.stream.specs.Stream.{componentsOf, freshStream, isScored, nextStream, componentsShown, memoryRefusal};
 use score::Components;
 use score::MaybeComponents;
 use score::MaybeScore;
