@@ -24,7 +24,7 @@ use Rattle.frame_call.proofs.Runs.{run-claim, stays as runs-stay}
 use Rattle.adaptive.specs.declared.Options.{Options}
 use Rattle.adaptive.specs.declared.Detector.{Detector}
 use Rattle.adaptive.specs.declared.Answer.{Answer}
-use Rattle.adaptive.specs.Options.{defaults, windowOptions, innerRefusal, optionsRefusal}
+use Rattle.adaptive.specs.Options.{defaults, windowOptions, optionsRefusal}
 use Rattle.adaptive.specs.State.{fresh, badState, settled}
 use Rattle.adaptive.specs.Step.{called}
 use Rattle.adaptive_claim.specs.Claim.{adaptiveRun, fromClearToClear, AdaptiveClaim}

@@ -1,8 +1,7 @@
 -- A frame that its constructor refuses, in a state that is not bad, is refused by the call on it with the same number: the answer has that number, the state as it was and no cut, and the store is as it was. So nobody has to read a constructor's number before the call.
-use mathlib.Core.Path.{_≡_, _∙_, ap}
+use mathlib.Core.Path.{_≡_}
 use mathlib.Core.Bool.{false}
 use Prim.Native.Nat.{ℕ, _<_}
-use mathlib.Core.List.{List}
 use native.Mathlib.Omega.{arith}
 use lib.Dec.{eqb}
 use borrow.Author.Tests.{ne-eqb}

@@ -1,4 +1,4 @@
--- A list of calls on one detector, as the filter sees them (document 01, the second paragraph), and how a detector over the filter acts on them.
+-- A list of calls on one detector, as the filter sees them, and how a detector over the filter acts on them.
 -- A content detector's calls act on these: a frame call that it accepts is a `frame` here, whatever the pixels were.
 use Prim.Native.Nat.{ℕ}
 use mathlib.Core.Bool.{Bool, true, false, _&&_}
@@ -17,6 +17,7 @@ pub record Frame : Type 0 where
   pub stamp : Timestamp
   pub above : Bool
 
+-- a call, as far as it concerns the filter
 pub data FilterCall : Type 0 where
   refused : FilterCall  -- a call that is refused
   frame : (width height : ℕ) → Frame → FilterCall  -- an accepted frame call
@@ -47,6 +48,7 @@ abbrev pub filtered : FilterOptions → (scored : Bool) → Filter → Frame →
 filtered o true φ f = flashFilter o φ (f .stamp) (f .above)
 filtered o false φ f = record { filter = fresh; cut = None }
 
+-- the state after a frame of this size, by the filter's step
 abbrev pub turnTo : (width height : ℕ) → FilterStep → Turn
 turnTo w h s = record { state = record { «has_previous» = true; width = w; height = h; filter = s .filter }; cut = s .cut }
 

@@ -1,12 +1,11 @@
 -- The planes at the start of a scratch whose first 3n bytes were written.
-use mathlib.Core.Path.{_≡_, refl, sym, ap, _∙_}
+use mathlib.Core.Path.{_≡_, sym, ap, _∙_}
 use mathlib.Core.List.{List, _++_, append-assoc}
 use Prim.Native.Nat.{ℕ, _+_, _*_}
-use native.Mathlib.Omega.{arith}
 use lib.ListN.{length, take, drop}
 use lib.Seq.{take-at, drop-at, drop-append-add}
 use Rattle.laws.proofs.Tab.{length-tabulate}
-use Rattle.arch_hsv.specs.Hsv.{hue, saturation, value, planeOf}
+use Rattle.arch_hsv.specs.Hsv.{hue, saturation}
 use Rattle.arch_planes.specs.Packed.{packed}
 use Rattle.scoring.specs.Planes.{Planes, joined, planesIn, lumaFrame, bgrFrame, hsvFrame}
 

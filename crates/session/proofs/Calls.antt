@@ -9,15 +9,11 @@ use lib.Dec.{eqb, leb}
 use lib.IntN.{ℤ, pos}
 use lib.ListN.{length, take, replicate, length-replicate}
 use Rattle.timestamp.specs.declared.Timestamp.{Timestamp}
-use Rattle.frame.specs.Checks.{lumaRefusal}
-use Rattle.stream.specs.Stream.{memoryRefusal}
-use Rattle.scoring.specs.Planes.{lumaFrame}
-use Rattle.content.specs.declared.Answer.{Answer}
 use Rattle.content.specs.declared.Detector.{Detector}
 use Rattle.content.specs.declared.Options.{Options}
 use Rattle.content.specs.Options.{defaults, pictureOptions, optionsRefusal}
 use Rattle.content.specs.State.{badState, refusedAnswer, clearedAnswer, settled, fresh}
-use Rattle.frame_call.specs.Call.{Outcome, luma, memory}
+use Rattle.frame_call.specs.Call.{luma, memory}
 use Rattle.frame_call.proofs.Returned.{lent-same}
 use Rattle.content.specs.Step.{stepped, called}
 use Rattle.decimal.specs.Reading.{isUpTo, isStamp, number}

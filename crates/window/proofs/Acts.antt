@@ -1,4 +1,4 @@
--- For a detector whose calls act on the calls of `specs/Calls.antt`: demand 3 holds of its own calls and answers. Assumes nothing.
+-- For a detector whose calls act on the calls of `specs/Calls.antt`: the claim holds of its own calls and answers. Assumes nothing.
 use mathlib.Core.Path.{_≡_, refl, ap}
 use mathlib.Core.List.{List, [], _∷_}
 use Rattle.timestamp.specs.declared.MaybeTimestamp.{MaybeTimestamp}

@@ -1,4 +1,4 @@
--- A list of calls on one adaptive detector, as its window sees them (document 01, the second paragraph). The detector's own calls act on these: a
+-- A list of calls on one adaptive detector, as its window sees them. The detector's own calls act on these: a
 -- frame call that it accepts is `scored` here, or `unscored` where it starts a stretch, whatever the pixels were.
 use mathlib.Core.List.{List, [], _∷_}
 use lib.Ieee.{Float}
@@ -9,6 +9,7 @@ use Rattle.window.specs.declared.Window.{Window}
 use Rattle.window.specs.declared.WindowStep.{WindowStep}
 use Rattle.window.specs.Window.{fresh, unchanged, pushAndCheck}
 
+-- a call, as far as it concerns the window
 pub data WindowCall : Type 0 where
   refused : WindowCall  -- a call that is refused
   unscored : WindowCall  -- an accepted frame call without a score: the first of a stretch

@@ -1,5 +1,4 @@
--- Demand 3 for adaptive calls: what holds of every list of calls. Document 01's second paragraph has the words for lists, refused calls and the
--- distance; here the cuts keep it from clear to clear, over changes of size, whatever the clock does (docs/DECISIONS.md).
+-- What holds of every list of adaptive calls: the cuts keep the distance from clear to clear, over changes of size and whatever the clock does.
 -- Everything here is said of the calls and their answers alone, and nothing of the detector's state.
 use mathlib.Core.Path.{_≡_}
 use mathlib.Core.Bool.{Bool, true, false}
@@ -10,17 +9,20 @@ use Rattle.filter.specs.Claim.{cutsIn, KeepsDistance}
 use Rattle.window.specs.declared.WindowOptions.{WindowOptions}
 use Rattle.window.specs.Calls.{WindowCall, refused, unscored, scored, clear, Answered, _brought_, windowRun}
 
--- ---- "When refused calls are left out, each other call still brings what it brought"
+-- ---- refused calls left out
 
+-- a refused call
 abbrev pub windowRefused : WindowCall → Bool
 windowRefused refused = true
 windowRefused unscored = false
 windowRefused (scored ts x) = false
 windowRefused clear = false
 
+-- the call of an answered call
 abbrev pub callOf : {A : Type 0} → Answered A → WindowCall
 callOf (c brought a) = c
 
+-- the answered calls that were not refused
 abbrev pub withoutRefused : {A : Type 0} → List (Answered A) → List (Answered A)
 withoutRefused {A} xs = leaveOut (λ (x : Answered A). windowRefused (callOf x)) xs
 
@@ -42,15 +44,15 @@ fromClearToClear ((clear brought a) ∷ xs) = (a ∷ []) ∷ fromClearToClear xs
 
 -- ---- the claim
 
--- "keeps the distance when each stamp is at least the minimum past the one before, in whole numbers"
+-- each cut is at least the minimum past the one before
 abbrev pub PartKeeps : WindowOptions → List MaybeTimestamp → Type 0
 PartKeeps o answers = KeepsDistance (o .«min_duration») (cutsIn answers)
 
--- Demand 3, of calls and what they brought: from clear to clear the cuts keep the distance
+-- the claim, of calls and what they brought: from clear to clear the cuts keep the distance
 abbrev pub PartsHold : WindowOptions → List (Answered MaybeTimestamp) → Type 0
 PartsHold o xs = All (PartKeeps o) (fromClearToClear xs)
 
--- Demand 3, of a list of calls from a fresh state
+-- the claim, of a list of calls from a fresh state
 pub record WindowClaim (o : WindowOptions) (calls : List WindowCall) : Type 0 where
   pub holds : PartsHold o (windowRun o calls)
   -- without the refused calls each other call brings what it brought

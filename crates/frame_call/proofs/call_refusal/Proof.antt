@@ -1,5 +1,4 @@
 -- `frame_call::call_refusal` meets its contract: 15, then the frame, then the memory.
-use borrow.Author.Needs.{needs}
 use mathlib.Core.Path.{_∙_}
 use native.Mathlib.Omega.{arith}
 use Rattle.frame_call.proofs.Refusals.{is-bad, by-frame, by-memory}

@@ -1,9 +1,9 @@
 -- `frame_call::process_hsv` meets its contract: refused by the first number, or accepted with the frame's planes in the scratch.
 use borrow.Author.Needs.{needs}
-use mathlib.Core.Path.{_≡_, refl, sym, _∙_}
-use Prim.Native.Nat.{ℕ, _+_, _-_, _*_, _^_, _≤_, _<_}
+use mathlib.Core.Path.{_≡_, sym, _∙_}
+use Prim.Native.Nat.{_*_, _^_, _<_}
 use native.Mathlib.Omega.{arith}
-use lib.ListN.{length, take, drop}
+use lib.ListN.{length}
 use Rattle.laws.proofs.Products.{product-below}
 use Rattle.laws.proofs.Parts.{length-from-to}
 use Rattle.frame.specs.Checks.{hsvRefusal}
