@@ -35,7 +35,7 @@ abbrev next : Detector → Call → Detector
 next d c = called d c .answer .detector
 
 -- an answer, before the parts of those after it
-abbrev withAnswer : Call → MaybeTimestamp → List (List MaybeTimestamp) → List (List MaybeTimestamp)
+abbrev pub withAnswer : Call → MaybeTimestamp → List (List MaybeTimestamp) → List (List MaybeTimestamp)
 withAnswer c a parts = byCall (λ u w h p ts m. joinedPart a parts) ((a ∷ []) ∷ parts) c
 
 -- ---- the run, as `window`'s law sees it: both divide at the clears
@@ -83,7 +83,7 @@ adaptive-claim o ok calls =
     }
 
 -- the defaults are accepted
-defaults-accepted : optionsRefusal defaults ≡ 0
+pub defaults-accepted : optionsRefusal defaults ≡ 0
 unfolding optionsRefusal settingsRefusal anyTooHeavy tooHeavy allZero le ofInt isNan
 defaults-accepted = refl
 

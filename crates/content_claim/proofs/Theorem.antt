@@ -55,7 +55,7 @@ content-claim o ok calls =
     }
 
 -- the defaults are accepted
-defaults-accepted : optionsRefusal defaults ≡ 0
+pub defaults-accepted : optionsRefusal defaults ≡ 0
 unfolding settingsRefusal anyTooHeavy tooHeavy allZero le ofInt isNan
 defaults-accepted = refl
 
