@@ -1,4 +1,4 @@
--- Document 01: "Defaults and settings as in both `Options`; `simd` goes."
+-- The adaptive detector's settings, their defaults and their refusals.
 use mathlib.Core.Bool.{Bool, true, not, _||_}
 use mathlib.Core.List.{[], _∷_}
 use Prim.Native.Nat.{ℕ}
@@ -11,9 +11,11 @@ use Rattle.score.specs.declared.KernelSize.{KernelSize}
 use Rattle.score.specs.declared.KernelSize.the-variants.{Auto}
 use Rattle.score.specs.Scores.{defaultWeights}
 use Rattle.score.specs.Settings.{settingsRefusal}
+use Rattle.frame_call.specs.declared.PictureOptions.{PictureOptions}
 use Rattle.window.specs.declared.WindowOptions.{WindowOptions}
 use Rattle.adaptive.specs.declared.Options.{Options}
 
+-- settings of these seven values
 abbrev pub options : Float → ℕ → ℕ → Float → Components → KernelSize → Bool → Options
 options threshold minimum width content weights kernel initial =
     record { «adaptive_threshold» = threshold; «min_duration» = minimum; «window_width» = width; «min_content_val» = content; weights = weights; «kernel_size» = kernel; «initial_cut» = initial }
@@ -27,15 +29,15 @@ abbrev pub windowOptions : Options → WindowOptions
 windowOptions o =
     record { «adaptive_threshold» = o .«adaptive_threshold»; «min_duration» = o .«min_duration»; «window_width» = o .«window_width»; «min_content_val» = o .«min_content_val»; «initial_cut» = o .«initial_cut» }
 
--- 6 to 9, where 9 is "a threshold or `min_content_val` is NaN"
+-- what a frame's picture is scored by
+abbrev pub pictureOptions : Options → PictureOptions
+pictureOptions o = record { weights = o .weights; «kernel_size» = o .«kernel_size» }
+
+-- 6 to 9; 9 is a threshold or a least content value that is NaN
 abbrev pub innerRefusal : Options → ℕ
 innerRefusal o = settingsRefusal (o .weights) (o .«kernel_size») (isNan (o .«adaptive_threshold») || isNan (o .«min_content_val»))
 
--- "Settings: 10, 11, then 6 to 9": window 0; window over 64
+-- the refusals of settings in their order: a window of 0 (10), one over 64 (11), then 6 to 9
 unfoldable pub optionsRefusal : Options → ℕ
 optionsRefusal o =
-    firstThat
-    ((eqb (o .«window_width») 0, 10) ∷
-    (ltb 64 (o .«window_width»), 11) ∷
-    (not (eqb (innerRefusal o) 0), innerRefusal o) ∷
-    [])
+    firstThat ((eqb (o .«window_width») 0, 10) ∷ (ltb 64 (o .«window_width»), 11) ∷ (not (eqb (innerRefusal o) 0), innerRefusal o) ∷ [])

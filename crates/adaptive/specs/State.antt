@@ -1,14 +1,12 @@
--- Document 01: the adaptive state record, its check (15), what settings and `clear` return.
+-- The state of an adaptive detector, its check (15), and what a settings call and `clear` return.
 use mathlib.Core.Bool.{Bool, cond, not, _||_}
 use Prim.Native.Nat.{ℕ, _+_, _*_}
 use lib.Dec.{eqb, ltb}
-use Rattle.laws.specs.Floats.{float}
 use Rattle.timestamp.specs.declared.MaybeTimestamp.the-variants.{None}
 use Rattle.frame.specs.Checks.{tooLarge}
-use Rattle.score.specs.declared.Components.{Components}
 use Rattle.score.specs.declared.MaybeScore.the-variants.{None as noScore}
-use Rattle.score.specs.Scores.{components}
-use Rattle.stream.specs.Stream.{freshStream}
+use Rattle.score.specs.declared.MaybeComponents.the-variants.{None as noComponents}
+use Rattle.stream.specs.Stream.{freshStream, componentsShown}
 use Rattle.window.specs.Window.{fresh as freshWindow}
 use Rattle.adaptive.specs.declared.Options.{Options}
 use Rattle.adaptive.specs.declared.Detector.{Detector}
@@ -24,28 +22,19 @@ stateOf o w h = record { options = o; stream = freshStream w h; window = freshWi
 abbrev pub fresh : Options → Detector
 fresh o = stateOf o 0 0
 
--- 15: "State is bad exactly if its settings would be refused, a side exceeds 4,096, the window count exceeds 2 × window + 1"
+-- 15: the settings would be refused, a side exceeds 4,096, or the window's count exceeds 2 × width + 1
 unfoldable pub badState : Detector → Bool
 badState d =
-    not (eqb (optionsRefusal (d .options)) 0)
-    || tooLarge (d .stream .width) (d .stream .height)
-    || ltb (2 * d .options .«window_width» + 1) (d .window .count)
+    not (eqb (optionsRefusal (d .options)) 0) || tooLarge (d .stream .width) (d .stream .height) || ltb (2 * d .options .«window_width» + 1) (d .window .count)
 
 -- a settings call: refused, a fresh record of the defaults; accepted, a fresh state
 unfoldable pub settled : Options → Settled
 settled o = record { number = optionsRefusal o; detector = fresh (cond (eqb (optionsRefusal o) 0) o defaults) }
 
--- the components of an answer without a score
-abbrev pub zeroComponents : Components
-zeroComponents = components (float 0) (float 0) (float 0) (float 0)
+-- an answer with this state, no cut and no score: that of a refused call, with the old state, and that of `clear`, with the number 0
+abbrev pub refusedAnswer : Detector → ℕ → Answer
+refusedAnswer d n = record { number = n; detector = d; cut = None; score = noScore; components = componentsShown noComponents }
 
--- an answer with this state, no cut and no score. "A refusal returns its number, the old state, no cut"
-abbrev pub unscoredAnswer : Detector → ℕ → Answer
-unscoredAnswer d n = record { number = n; detector = d; cut = None; score = noScore; components = zeroComponents }
-
--- "`clear` keeps settings and size, all else is as at the start; it refuses by 15 alone."
-abbrev pub cleared : Detector → Detector
-cleared d = stateOf (d .options) (d .stream .width) (d .stream .height)
-
+-- what `clear` returns: refused by 15 alone, it keeps settings and size, and all else is as at the start
 unfoldable pub clearedAnswer : Detector → Answer
-clearedAnswer d = cond (badState d) (unscoredAnswer d 15) (unscoredAnswer (cleared d) 0)
+clearedAnswer d = cond (badState d) (refusedAnswer d 15) (refusedAnswer (stateOf (d .options) (d .stream .width) (d .stream .height)) 0)

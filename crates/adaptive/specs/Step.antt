@@ -1,40 +1,32 @@
--- Document 01, `src/adaptive.rs`: what an accepted frame brings, by the sums of its differences.
-use mathlib.Core.Bool.{Bool, true, false}
-use Prim.Native.Nat.{ℕ}
+-- What the adaptive detector answers: to an accepted frame, by the stream after it, and to any call.
 use Rattle.timestamp.specs.declared.Timestamp.{Timestamp}
-use Rattle.timestamp.specs.declared.MaybeTimestamp.the-variants.{None}
-use Rattle.score.specs.declared.Components.{Components}
-use Rattle.score.specs.Scores.{scoreOf}
+use Rattle.score.specs.declared.MaybeScore.{MaybeScore}
+use Rattle.score.specs.declared.MaybeScore.the-variants.{None as noScore, Some as someScore}
 use Rattle.stream.specs.declared.Stream.{Stream}
-use Rattle.stream.specs.declared.Sums.{Sums}
-use Rattle.stream.specs.Sums.{componentsOf}
-use Rattle.stream.specs.Stream.{isScored, nextStream}
+use Rattle.stream.specs.Stream.{componentsShown}
+use Rattle.window.specs.declared.Window.{Window}
 use Rattle.window.specs.declared.WindowStep.{WindowStep}
 use Rattle.window.specs.Window.{unchanged, pushAndCheck}
+use Rattle.frame_call.specs.Call.{Call, Outcome, outcomeOf}
+use Rattle.adaptive.specs.declared.Options.{Options}
 use Rattle.adaptive.specs.declared.Detector.{Detector}
 use Rattle.adaptive.specs.declared.Answer.{Answer}
-use Rattle.adaptive.specs.Options.{windowOptions}
-use Rattle.adaptive.specs.State.{zeroComponents}
+use Rattle.adaptive.specs.Options.{windowOptions, pictureOptions}
+use Rattle.adaptive.specs.State.{badState, refusedAnswer, clearedAnswer}
 
--- a scored frame's score is pushed; a frame without one leaves the window as it is. "A size change keeps the window, last cut, ratio and
--- target score; only `clear` drops them."
-abbrev pub windowStep : Bool → Detector → Timestamp → Components → WindowStep
-windowStep true d ts deltas = pushAndCheck (windowOptions (d .options)) (d .window) ts (scoreOf deltas (d .options .weights))
-windowStep false d ts deltas = unchanged (d .window)
+-- A frame's score is pushed. The first frame of a stretch, which has none, leaves the window as it is: a change of size keeps it, with the
+-- last cut, ratio and target score, and only `clear` drops it.
+abbrev pub windowStep : Options → Window → Timestamp → MaybeScore → WindowStep
+windowStep o s ts noScore = unchanged s
+windowStep o s ts (someScore x) = pushAndCheck (windowOptions o) s ts x
 
-abbrev pub deltasIf : Bool → Sums → Components
-deltasIf true sums = componentsOf sums
-deltasIf false sums = zeroComponents
+-- the answer to an accepted frame, by its stamp and the stream after it
+unfoldable pub stepped : Detector → Timestamp → Stream → Answer
+stepped d ts s =
+    let step : WindowStep = windowStep (d .options) (d .window) ts (s .«last_score») in
+    let after : Detector = record { options = d .options; stream = s; window = step .window } in
+    record { number = 0; detector = after; cut = step .cut; score = s .«last_score»; components = componentsShown (s .«last_components») }
 
--- the answer to an accepted frame of w columns and h rows
-unfoldable pub stepped : Detector → ℕ → ℕ → Timestamp → Sums → Answer
-stepped d w h ts sums =
-    let stream : Stream = nextStream (d .stream) w h (d .options .weights) sums in
-    let step : WindowStep = windowStep (isScored (d .stream) w h) d ts (componentsOf sums) in
-    record {
-      number = 0;
-      detector = record { options = d .options; stream = stream; window = step .window };
-      cut = step .cut;
-      score = stream .«last_score»;
-      components = deltasIf (isScored (d .stream) w h) sums;
-    }
+-- a call: what it answers, with the state that it returns, and the store after it
+abbrev pub called : Detector → Call → Outcome Answer
+called d c = outcomeOf (d .stream) (pictureOptions (d .options)) (badState d) (stepped d) (refusedAnswer d) (clearedAnswer d) c

@@ -4,19 +4,20 @@
 ghost use mathlib.Core.Path.{_≡_};
 ghost use mathlib.Core.Bool.{_||_};
 ghost use lib.Ieee.{isNan};
-ghost use Rattle.adaptive.specs.Options.{options, defaults, windowOptions, optionsRefusal};
-ghost use Rattle.adaptive.specs.State.{fresh, badState, settled, unscoredAnswer, clearedAnswer};
-ghost use Rattle.adaptive.specs.Step.{stepped};
+ghost use Rattle.adaptive.specs.Options.{options, defaults, windowOptions, pictureOptions, optionsRefusal};
+ghost use Rattle.adaptive.specs.State.{fresh, badState, settled, refusedAnswer, clearedAnswer};
+ghost use Rattle.adaptive.specs.Step.{windowStep, stepped};
+use frame_call::PictureOptions;
 use score::Components;
 use score::KernelSize;
 use score::MaybeComponents;
 use score::MaybeScore;
 use stream::Stream;
-use stream::Sums;
 use timestamp::MaybeTimestamp;
 use timestamp::Timestamp;
 use window::Window;
 use window::WindowOptions;
+use window::WindowStep;
 
 pub struct Options {
     pub adaptive_threshold: f64,
@@ -237,6 +238,18 @@ fn window_options(o: Options) -> WindowOptions
     }
 }
 
+// What a frame's picture is scored by.
+pub fn picture_options(o: Options) -> PictureOptions
+    ensures { λ r. ⌜ r ≡ pictureOptions o ⌝ }
+{
+    let weights = o.weights;
+    let kernel_size = o.kernel_size;
+    PictureOptions {
+        weights: weights,
+        kernel_size: kernel_size,
+    }
+}
+
 // Refusals 10, 11, then 6 to 9 of settings.
 fn options_refusal(o: Options) -> u32
     ensures { λ r. ⌜ r ≡ optionsRefusal o ⌝ }
@@ -301,7 +314,7 @@ pub fn is_bad(d: Detector) -> bool
 
 // No cut, no score, components of 0.0. An inner layer of the calls, and no call: it tests nothing.
 pub fn without_score(d: Detector, number: u32) -> Answer
-    ensures { λ r. ⌜ r ≡ unscoredAnswer d number ⌝ }
+    ensures { λ r. ⌜ r ≡ refusedAnswer d number ⌝ }
 {
     Answer {
         number: number,
@@ -339,44 +352,46 @@ pub fn clear(d: Detector) -> Answer
     )
 }
 
-// An accepted frame of this size, by the sums of its differences with the one before. An inner layer of the frame calls, and no
-// call: it tests nothing.
-pub fn step(d: Detector, width: u32, height: u32, ts: Timestamp, sums: Sums) -> Answer
-    ensures { λ r. ⌜ r ≡ stepped d width height ts sums ⌝ }
+// The window's step by a frame's score or none.
+fn window_step(o: Options, kept: Window, ts: Timestamp, last: MaybeScore) -> WindowStep
+    ensures { λ r. ⌜ r ≡ windowStep o kept ts last ⌝ }
+{
+    match last {
+        MaybeScore::None => {
+            let held = kept;
+            WindowStep {
+                window: held,
+                cut: MaybeTimestamp::None,
+            }
+        }
+        MaybeScore::Some(value) => window::push_and_check(window_options(o), kept, ts, value),
+    }
+}
+
+// An accepted frame, by the stream after it, which has its score. An inner layer of the frame calls, and no call: it tests nothing.
+pub fn step(d: Detector, ts: Timestamp, s: Stream) -> Answer
+    ensures { λ r. ⌜ r ≡ stepped d ts s ⌝ }
 {
     let o = d.options;
-    let was = d.stream;
-    let weights = o.weights;
     let kept = d.window;
-    let s = stream::next_stream(was, width, height, weights, sums);
-    if stream::is_scored(was, width, height) {
-        let deltas = stream::components(sums);
-        let value = score::score(deltas, weights);
-        let next = window::push_and_check(window_options(o), kept, ts, value);
-        let pushed = next.window;
-        let cut = next.cut;
-        let detector = Detector {
-            options: o,
-            stream: s,
-            window: pushed,
-        };
-        return Answer {
-            number: 0,
-            detector: detector,
-            cut: cut,
-            score: MaybeScore::Some(value),
-            components: deltas,
-        };
+    let last = s.last_score;
+    let deltas = s.last_components;
+    let next = window_step(o, kept, ts, last);
+    let pushed = next.window;
+    let cut = next.cut;
+    let shown = stream::components_shown(deltas);
+    let detector = Detector {
+        options: o,
+        stream: s,
+        window: pushed,
+    };
+    Answer {
+        number: 0,
+        detector: detector,
+        cut: cut,
+        score: last,
+        components: shown,
     }
-    let held = kept;
-    without_score(
-        Detector {
-            options: o,
-            stream: s,
-            window: held,
-        },
-        0,
-    )
 }
 
 // The readers refuse nothing and show the record as it is.

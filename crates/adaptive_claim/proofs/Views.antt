@@ -1,25 +1,23 @@
 -- An adaptive call acts on the window as the window's own call does. Assumes nothing.
-use mathlib.Core.Path.{_≡_, refl, ap, subst}
+use mathlib.Core.Path.{_≡_, refl, subst}
 use mathlib.Core.Bool.{Bool, true, false, cond}
-use mathlib.Core.List.{List}
 use Prim.Native.Nat.{ℕ}
 use lib.Dec.{eqb}
 use Rattle.timestamp.specs.declared.Timestamp.{Timestamp}
-use Rattle.score.specs.Scores.{edgesEnabled, scoreOf}
-use Rattle.stream.specs.declared.Sums.{Sums}
-use Rattle.stream.specs.Sums.{componentsOf}
-use Rattle.stream.specs.Stream.{isScored, nextStream}
-use Rattle.scoring.specs.Planes.{Planes, lumaFrame, bgrFrame, hsvFrame}
-use Rattle.scoring.specs.Sums.{kernelOf, frameSums}
+use Rattle.score.specs.declared.MaybeScore.{MaybeScore}
+use Rattle.score.specs.declared.MaybeScore.the-variants.{None as noScore, Some as someScore}
+use Rattle.stream.specs.declared.Stream.{Stream}
+use Rattle.scoring.specs.Planes.{Planes}
 use Rattle.window.specs.declared.WindowStep.{WindowStep}
-use Rattle.window.specs.Calls.{Call as WindowCall, refused, unscored, scored, clear as clearCall, turn}
-use Rattle.content_calls.specs.Call.{Call, luma, bgr, hsv, clear}
+use Rattle.window.specs.Calls.{WindowCall, refused, unscored, scored, clear as clearCall, turn}
+use Rattle.frame_call.specs.Call.{Memory, Call, luma, bgr, hsv, clear, byCall, frameNumber, pictured, answeredBy}
+use Rattle.frame_call.proofs.Runs.{streamAfter, if-accepted, if-refused}
 use Rattle.adaptive.specs.declared.Options.{Options}
 use Rattle.adaptive.specs.declared.Detector.{Detector}
 use Rattle.adaptive.specs.declared.Answer.{Answer}
-use Rattle.adaptive.specs.Options.{windowOptions, optionsRefusal}
-use Rattle.adaptive.specs.Step.{windowStep, stepped}
-use Rattle.adaptive_calls.specs.Call.{numberOf, accepted, frameCall, called}
+use Rattle.adaptive.specs.Options.{windowOptions, pictureOptions, optionsRefusal}
+use Rattle.adaptive.specs.State.{badState, refusedAnswer}
+use Rattle.adaptive.specs.Step.{windowStep, stepped, called}
 use Rattle.adaptive_claim.proofs.Good.{Good, clear-is}
 
 -- what an answer makes of the window
@@ -27,45 +25,44 @@ abbrev turned : Answer → WindowStep
 turned a = record { window = a .detector .window; cut = a .cut }
 
 -- a frame that is scored, or is the first of its stretch
-abbrev pub scoredIf : Bool → Detector → Timestamp → Sums → WindowCall
-scoredIf true d ts sums = scored ts (scoreOf (componentsOf sums) (d .options .weights))
-scoredIf false d ts sums = unscored
+abbrev pub scoredIf : MaybeScore → Timestamp → WindowCall
+scoredIf noScore ts = unscored
+scoredIf (someScore x) ts = scored ts x
 
-module _ (d : Detector) (w h : ℕ) (p : Planes) (ts : Timestamp) (store : List ℕ) where
-  abbrev pub sums : Sums
-  sums = frameSums (edgesEnabled (d .options .weights)) (isScored (d .stream) w h) (kernelOf (d .options .«kernel_size») w h) w h p store
+module _ (d : Detector) (u w h : ℕ) (p : Planes) (ts : Timestamp) (m : Memory) where
+  abbrev pub after : Stream
+  after = streamAfter (d .stream) (pictureOptions (d .options)) w h p (m .store)
 
-  abbrev pub frameView : (n : ℕ) → WindowCall
-  frameView n = cond (eqb n 0) (scoredIf (isScored (d .stream) w h) d ts sums) refused
+  abbrev pub frameView : WindowCall
+  frameView = cond (eqb (frameNumber (badState d) u w h m) 0) (scoredIf (after .«last_score») ts) refused
 
-  step-acts : (b : Bool) (s : Sums) → turn (windowOptions (d .options)) (d .window) (scoredIf b d ts s) ≡ windowStep b d ts (componentsOf s)
-  step-acts true s = refl
-  step-acts false s = refl
+  step-acts : (x : MaybeScore) → turn (windowOptions (d .options)) (d .window) (scoredIf x ts) ≡ windowStep (d .options) (d .window) ts x
+  step-acts noScore = refl
+  step-acts (someScore x) = refl
 
-  accepted-acts : turn (windowOptions (d .options)) (d .window) (scoredIf (isScored (d .stream) w h) d ts sums) ≡ turned (accepted d w h p ts store .answer)
-  unfolding accepted stepped
-  accepted-acts = step-acts (isScored (d .stream) w h) sums
+  accepted-acts : turn (windowOptions (d .options)) (d .window) (scoredIf (after .«last_score») ts) ≡ turned (stepped d ts after)
+  unfolding stepped
+  accepted-acts = step-acts (after .«last_score»)
 
-  frame-acts : (n : ℕ) → turn (windowOptions (d .options)) (d .window) (frameView n) ≡ turned (frameCall d n w h p ts store .answer)
-  unfolding frameCall
-  frame-acts n = by-zero (eqb n 0) refl
+  frame-acts : turn (windowOptions (d .options)) (d .window) frameView
+      ≡ turned (answeredBy (stepped d ts) (refusedAnswer d) (pictured (d .stream) (pictureOptions (d .options)) (badState d) u w h p m .answer))
+  frame-acts = by-zero (eqb (frameNumber (badState d) u w h m) 0) refl
     where
-      by-zero : (b : Bool) → eqb n 0 ≡ b → turn (windowOptions (d .options)) (d .window) (frameView n) ≡ turned (frameCall d n w h p ts store .answer)
-      by-zero true e = rw e accepted-acts
-      by-zero false e = rw e
+      by-zero : (b : Bool) → eqb (frameNumber (badState d) u w h m) 0 ≡ b
+          → turn (windowOptions (d .options)) (d .window) frameView
+          ≡ turned (answeredBy (stepped d ts) (refusedAnswer d) (pictured (d .stream) (pictureOptions (d .options)) (badState d) u w h p m .answer))
+      by-zero true e = rw (e, if-accepted (d .stream) (pictureOptions (d .options)) (badState d) (stepped d ts) (refusedAnswer d) u w h p m e) accepted-acts
+      by-zero false e = rw (e, if-refused (d .stream) (pictureOptions (d .options)) (badState d) (stepped d ts) (refusedAnswer d) u w h p m e)
 
 -- a call, at the state that it finds
 abbrev pub viewOf : Detector → Call → WindowCall
-viewOf d (luma plane w h stride ts m) = frameView d w h (lumaFrame plane w h stride) ts (m .store) (numberOf d (luma plane w h stride ts m))
-viewOf d (bgr pixels w h stride ts m) = frameView d w h (bgrFrame pixels w h stride) ts (m .store) (numberOf d (bgr pixels w h stride ts m))
-viewOf d (hsv hs ss vs w h stride ts m) = frameView d w h (hsvFrame hs ss vs w h stride) ts (m .store) (numberOf d (hsv hs ss vs w h stride ts m))
-viewOf d clear = clearCall
+viewOf d c = byCall (frameView d) clearCall c
 
 module _ (o : Options) (ok : optionsRefusal o ≡ 0) where
   own-acts : (d : Detector) (c : Call) → Good o d → turn (windowOptions (d .options)) (d .window) (viewOf d c) ≡ turned (called d c .answer)
-  own-acts d (luma plane w h stride ts m) g = frame-acts d w h (lumaFrame plane w h stride) ts (m .store) (numberOf d (luma plane w h stride ts m))
-  own-acts d (bgr pixels w h stride ts m) g = frame-acts d w h (bgrFrame pixels w h stride) ts (m .store) (numberOf d (bgr pixels w h stride ts m))
-  own-acts d (hsv hs ss vs w h stride ts m) g = frame-acts d w h (hsvFrame hs ss vs w h stride) ts (m .store) (numberOf d (hsv hs ss vs w h stride ts m))
+  own-acts d (luma plane w h stride ts m) g = frame-acts d _ _ _ _ ts m
+  own-acts d (bgr pixels w h stride ts m) g = frame-acts d _ _ _ _ ts m
+  own-acts d (hsv hs ss vs w h stride ts m) g = frame-acts d _ _ _ _ ts m
   own-acts d clear g = rw (clear-is o ok d g)
 
   pub acts : (d : Detector) (c : Call) → Good o d → turn (windowOptions o) (d .window) (viewOf d c) ≡ turned (called d c .answer)

@@ -1,1 +1,1 @@
-// No code: demand 3 for lists of adaptive calls.
+// No code: what holds of every list of adaptive calls.

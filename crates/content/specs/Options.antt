@@ -1,4 +1,4 @@
--- Document 01: "Defaults and settings as in both `Options`; `simd` goes."
+-- The content detector's settings, their defaults and their refusals.
 use mathlib.Core.Bool.{Bool, true}
 use Prim.Native.Nat.{ℕ}
 use lib.Ieee.{Float, isNan}
@@ -11,8 +11,10 @@ use Rattle.score.specs.Settings.{settingsRefusal}
 use Rattle.filter.specs.declared.FilterMode.{FilterMode}
 use Rattle.filter.specs.declared.FilterMode.the-variants.{Merge}
 use Rattle.filter.specs.declared.FilterOptions.{FilterOptions}
+use Rattle.frame_call.specs.declared.PictureOptions.{PictureOptions}
 use Rattle.content.specs.declared.Options.{Options}
 
+-- settings of these six values
 abbrev pub options : Float → ℕ → Components → FilterMode → KernelSize → Bool → Options
 options threshold minimum weights mode kernel initial =
     record { threshold = threshold; «min_duration» = minimum; weights = weights; «filter_mode» = mode; «kernel_size» = kernel; «initial_cut» = initial }
@@ -25,6 +27,10 @@ defaults = options (float 27) 1000000 defaultWeights Merge Auto true
 abbrev pub filterOptions : Options → FilterOptions
 filterOptions o = record { «filter_mode» = o .«filter_mode»; «min_duration» = o .«min_duration»; «initial_cut» = o .«initial_cut» }
 
--- refusals 6 to 9 of settings
+-- what a frame's picture is scored by
+abbrev pub pictureOptions : Options → PictureOptions
+pictureOptions o = record { weights = o .weights; «kernel_size» = o .«kernel_size» }
+
+-- refusals 6 to 9 of settings; 9 is a threshold that is NaN
 abbrev pub optionsRefusal : Options → ℕ
 optionsRefusal o = settingsRefusal (o .weights) (o .«kernel_size») (isNan (o .threshold))

@@ -1,15 +1,13 @@
--- Document 01: the state record, its check (15), what settings and `clear` return.
+-- The state of a content detector, its check (15), and what a settings call and `clear` return.
 use mathlib.Core.Bool.{Bool, true, false, cond, not, _&&_, _||_}
 use Prim.Native.Nat.{ℕ}
 use lib.Dec.{eqb}
-use Rattle.laws.specs.Floats.{float}
 use Rattle.timestamp.specs.declared.MaybeTimestamp.{MaybeTimestamp}
 use Rattle.timestamp.specs.declared.MaybeTimestamp.the-variants.{None, At}
 use Rattle.frame.specs.Checks.{tooLarge}
 use Rattle.score.specs.declared.MaybeScore.the-variants.{None as noScore}
-use Rattle.score.specs.declared.Components.{Components}
-use Rattle.score.specs.Scores.{components}
-use Rattle.stream.specs.Stream.{freshStream}
+use Rattle.score.specs.declared.MaybeComponents.the-variants.{None as noComponents}
+use Rattle.stream.specs.Stream.{freshStream, componentsShown}
 use Rattle.filter.specs.declared.Filter.{Filter}
 use Rattle.filter.specs.Flash.{fresh as freshFilter}
 use Rattle.content.specs.declared.Options.{Options}
@@ -26,6 +24,7 @@ stateOf o w h = record { options = o; stream = freshStream w h; filter = freshFi
 abbrev pub fresh : Options → Detector
 fresh o = stateOf o 0 0
 
+-- there is no such stamp
 abbrev pub missing : MaybeTimestamp → Bool
 missing None = true
 missing (At t) = false
@@ -34,29 +33,18 @@ missing (At t) = false
 abbrev pub badFilter : Filter → Bool
 badFilter f = f .«merge_triggered» && (missing (f .«merge_start») || missing (f .«last_above»))
 
--- 15: "State is bad exactly if its settings would be refused, a side exceeds 4,096, .. or a merge is triggered without start or last
--- stamp."
+-- 15: the settings would be refused, a side exceeds 4,096, or a merge is triggered without start or last stamp
 unfoldable pub badState : Detector → Bool
 badState d = not (eqb (optionsRefusal (d .options)) 0) || tooLarge (d .stream .width) (d .stream .height) || badFilter (d .filter)
 
 -- a settings call: refused, a fresh record of the defaults; accepted, a fresh state
 unfoldable pub settled : Options → Settled
-settled o =
-    record { number = optionsRefusal o; detector = fresh (cond (eqb (optionsRefusal o) 0) o defaults) }
+settled o = record { number = optionsRefusal o; detector = fresh (cond (eqb (optionsRefusal o) 0) o defaults) }
 
--- the components of an answer without a score
-abbrev pub zeroComponents : Components
-zeroComponents = components (float 0) (float 0) (float 0) (float 0)
-
--- An answer with this state, no cut and no score. "A refusal returns its number, the old state, no cut"; an accepted `clear` answers so
--- too, with the number 0.
+-- an answer with this state, no cut and no score: that of a refused call, with the old state, and that of `clear`, with the number 0
 abbrev pub refusedAnswer : Detector → ℕ → Answer
-refusedAnswer d n =
-    record { number = n; detector = d; cut = None; score = noScore; components = zeroComponents }
+refusedAnswer d n = record { number = n; detector = d; cut = None; score = noScore; components = componentsShown noComponents }
 
--- "`clear` keeps settings and size, all else is as at the start; it refuses by 15 alone."
-abbrev pub cleared : Detector → Detector
-cleared d = stateOf (d .options) (d .stream .width) (d .stream .height)
-
+-- what `clear` returns: refused by 15 alone, it keeps settings and size, and all else is as at the start
 unfoldable pub clearedAnswer : Detector → Answer
-clearedAnswer d = cond (badState d) (refusedAnswer d 15) (refusedAnswer (cleared d) 0)
+clearedAnswer d = cond (badState d) (refusedAnswer d 15) (refusedAnswer (stateOf (d .options) (d .stream .width) (d .stream .height)) 0)

@@ -1,18 +1,19 @@
 // The content detector without its pixels: options, the state record, settings, the step of an accepted frame, `clear` and the
 // readers. Values go in and come out. The frame calls are in the crate `content_frames`.
 ghost use mathlib.Core.Path.{_≡_};
-ghost use Rattle.content.specs.Options.{options, defaults, filterOptions, optionsRefusal};
+ghost use Rattle.content.specs.Options.{options, defaults, filterOptions, pictureOptions, optionsRefusal};
 ghost use Rattle.content.specs.State.{fresh, missing, badFilter, badState, settled, refusedAnswer, clearedAnswer};
-ghost use Rattle.content.specs.Step.{stepped};
+ghost use Rattle.content.specs.Step.{filterStep, stepped};
 use filter::Filter;
 use filter::FilterMode;
 use filter::FilterOptions;
+use filter::FilterStep;
+use frame_call::PictureOptions;
 use score::Components;
 use score::KernelSize;
 use score::MaybeComponents;
 use score::MaybeScore;
 use stream::Stream;
-use stream::Sums;
 use timestamp::MaybeTimestamp;
 use timestamp::Timestamp;
 
@@ -208,6 +209,18 @@ fn filter_options(o: Options) -> FilterOptions
     }
 }
 
+// What a frame's picture is scored by.
+pub fn picture_options(o: Options) -> PictureOptions
+    ensures { λ r. ⌜ r ≡ pictureOptions o ⌝ }
+{
+    let weights = o.weights;
+    let kernel_size = o.kernel_size;
+    PictureOptions {
+        weights: weights,
+        kernel_size: kernel_size,
+    }
+}
+
 // Refusals 6 to 9 of settings.
 fn options_refusal(o: Options) -> u32
     ensures { λ r. ⌜ r ≡ optionsRefusal o ⌝ }
@@ -319,45 +332,48 @@ pub fn clear(d: Detector) -> Answer
     )
 }
 
-// An accepted frame of this size, by the sums of its differences with the one before. An inner layer of the frame calls, and no
-// call: it tests nothing.
-pub fn step(d: Detector, width: u32, height: u32, ts: Timestamp, sums: Sums) -> Answer
-    ensures { λ r. ⌜ r ≡ stepped d width height ts sums ⌝ }
+// The filter's step by a frame's score or none.
+fn filter_step(o: Options, f: Filter, ts: Timestamp, last: MaybeScore) -> FilterStep
+    ensures { λ r. ⌜ r ≡ filterStep o f ts last ⌝ }
+{
+    match last {
+        MaybeScore::None => {
+            let unseeded = filter::new();
+            FilterStep {
+                filter: unseeded,
+                cut: MaybeTimestamp::None,
+            }
+        }
+        MaybeScore::Some(value) => {
+            filter::flash_filter(filter_options(o), f, ts, score::above(value, o.threshold))
+        }
+    }
+}
+
+// An accepted frame, by the stream after it, which has its score. An inner layer of the frame calls, and no call: it tests nothing.
+pub fn step(d: Detector, ts: Timestamp, s: Stream) -> Answer
+    ensures { λ r. ⌜ r ≡ stepped d ts s ⌝ }
 {
     let o = d.options;
-    let was = d.stream;
-    let weights = o.weights;
     let f = d.filter;
-    let s = stream::next_stream(was, width, height, weights, sums);
-    if stream::is_scored(was, width, height) {
-        let deltas = stream::components(sums);
-        let value = score::score(deltas, weights);
-        let next = filter::flash_filter(filter_options(o), f, ts, score::above(value, o.threshold));
-        let after = next.filter;
-        let cut = next.cut;
-        let shown = s.last_score;
-        let detector = Detector {
-            options: o,
-            stream: s,
-            filter: after,
-        };
-        return Answer {
-            number: 0,
-            detector: detector,
-            cut: cut,
-            score: shown,
-            components: deltas,
-        };
+    let last = s.last_score;
+    let deltas = s.last_components;
+    let next = filter_step(o, f, ts, last);
+    let after = next.filter;
+    let cut = next.cut;
+    let shown = stream::components_shown(deltas);
+    let detector = Detector {
+        options: o,
+        stream: s,
+        filter: after,
+    };
+    Answer {
+        number: 0,
+        detector: detector,
+        cut: cut,
+        score: last,
+        components: shown,
     }
-    let unseeded = filter::new();
-    without_score(
-        Detector {
-            options: o,
-            stream: s,
-            filter: unseeded,
-        },
-        0,
-    )
 }
 
 // The readers refuse nothing and show the record as it is.

@@ -1,4 +1,4 @@
--- An instance, computed: document 01's four session lines, as calls under the defaults, with a refused call among them.
+-- An instance, computed: four frames of one pixel, as calls under the defaults, with a refused call among them.
 use mathlib.Core.Path.{_≡_, refl}
 use mathlib.Core.Bool.{Bool, true, false}
 use mathlib.Core.List.{List, [], _∷_, map}
@@ -14,19 +14,17 @@ use Rattle.arch_planes.specs.Difference.{sumAbsDiff, meanOf}
 use Rattle.arch_planes.specs.Packed.{packed}
 use Rattle.score.specs.Scores.{sumAbs, weighed, scoreOf, edgesEnabled}
 use Rattle.score.specs.Settings.{settingsRefusal, anyTooHeavy, tooHeavy, allZero}
-use Rattle.stream.specs.Sums.{componentsOf}
-use Rattle.stream.specs.Stream.{isScored, nextStream, memoryRefusal}
+use Rattle.stream.specs.Stream.{componentsOf, isScored, nextStream, memoryRefusal}
 use Rattle.scoring.specs.Planes.{lumaFrame}
 use Rattle.scoring.specs.Sums.{frameSums}
-use Rattle.filter.specs.Calls.{Call as FilterCall, refused, frame}
+use Rattle.filter.specs.Calls.{FilterCall, refused, frame}
 use Rattle.filter.specs.Claim.{answers}
 use Rattle.filter.specs.Flash.{virtualSeed, seeded, minLengthMet, numMerged, mergeHeld, mergeFree, filterMerge, flashFilter}
 use Rattle.content.specs.Options.{defaults}
 use Rattle.content.specs.State.{badState}
 use Rattle.content.specs.Step.{stepped}
-use Rattle.content_calls.specs.Call.{Call, luma, callRefusal, accepted, frameCall}
-use Rattle.content_claim.specs.View.{frameScore, viewOf}
-use Rattle.content_claim.specs.Claim.{run, withCut}
+use Rattle.frame_call.specs.Call.{Call, luma, callRefusal, accepted, pictured}
+use Rattle.content_claim.specs.Claim.{frameScore, viewOf, contentRun, withCut}
 
 at : ℕ → Timestamp
 at n = record { micros = pos n }
@@ -47,9 +45,9 @@ seen : ℕ → Bool → FilterCall
 seen stamp above = frame 1 1 (record { stamp = at stamp; above = above })
 
 views : map (viewOf defaults) lines ≡ seen 0 false ∷ seen 400000 true ∷ refused ∷ seen 900000 true ∷ seen 2000000 false ∷ []
-unfolding tabulate sum sumAbsDiff meanOf packed at pixel short lines seen planeRefusal lumaRefusal memoryRefusal frameScore sumAbs weighed scoreOf edgesEnabled componentsOf lumaFrame frameSums add mul div le ne ofInt
+unfolding tabulate sum sumAbsDiff meanOf packed at pixel short lines seen planeRefusal lumaRefusal memoryRefusal callRefusal frameScore sumAbs weighed scoreOf edgesEnabled componentsOf lumaFrame frameSums add mul div le ne ofInt
 views = refl
 
-cuts : answers (map (withCut defaults) (run defaults lines)) ≡ None ∷ At (at 400000) ∷ None ∷ None ∷ None ∷ []
-unfolding tabulate sum sumAbsDiff meanOf packed at pixel short lines planeRefusal lumaRefusal memoryRefusal sumAbs weighed scoreOf edgesEnabled componentsOf lumaFrame frameSums add mul div le ne ofInt isNan settingsRefusal anyTooHeavy tooHeavy allZero badState callRefusal accepted frameCall stepped isScored nextStream durationSince saturatingSub virtualSeed seeded minLengthMet numMerged mergeHeld mergeFree filterMerge flashFilter
+cuts : answers (map (withCut defaults) (contentRun defaults lines)) ≡ None ∷ At (at 400000) ∷ None ∷ None ∷ None ∷ []
+unfolding tabulate sum sumAbsDiff meanOf packed at pixel short lines planeRefusal lumaRefusal memoryRefusal sumAbs weighed scoreOf edgesEnabled componentsOf lumaFrame frameSums add mul div le ne ofInt isNan settingsRefusal anyTooHeavy tooHeavy allZero badState callRefusal accepted pictured stepped isScored nextStream durationSince saturatingSub virtualSeed seeded minLengthMet numMerged mergeHeld mergeFree filterMerge flashFilter
 cuts = refl

@@ -1,77 +1,45 @@
--- THE THEOREM: demand 3, as `specs/Claim.antt` states it, holds of every list of content calls under settings that are accepted. Assumes
--- nothing else.
-use mathlib.Core.Path.{_≡_, refl, ap, subst}
-use mathlib.Core.Bool.{Bool, true, false, cond, not}
+-- THE THEOREM: what `specs/Claim.antt` states holds of every list of content calls under settings that are accepted. Assumes nothing else.
+use mathlib.Core.Path.{_≡_, refl, ap}
+use mathlib.Core.Bool.{Bool, true, false, cond}
 use mathlib.Core.List.{List, [], _∷_, map}
-use Prim.Native.Nat.{ℕ}
 use lib.Dec.{eqb}
 use lib.Ieee.{le, ofInt, isNan}
-use borrow.Author.Tests.{not-true, eqb-true}
-use Rattle.timestamp.specs.declared.Timestamp.{Timestamp}
+use borrow.Author.Tests.{eqb-true}
 use Rattle.score.specs.Settings.{settingsRefusal, anyTooHeavy, tooHeavy, allZero}
-use Rattle.scoring.specs.Planes.{Planes}
 use Rattle.filter.specs.Calls.{_brought_}
-use Rattle.filter.specs.Claim.{All, leaveOut, Holds}
-use Rattle.filter.specs.Seen.{seen}
+use Rattle.filter.specs.Claim.{StretchesHold}
+use Rattle.filter.specs.Seen.{seenByFilter}
 use Rattle.filter.proofs.Acts.{acts-holds}
+use Rattle.frame_call.specs.Call.{Call}
+use Rattle.frame_call.specs.Run.{runFrom}
+use Rattle.frame_call.proofs.Runs.{run-claim, stays as runs-stay}
 use Rattle.content.specs.declared.Options.{Options}
 use Rattle.content.specs.declared.Detector.{Detector}
+use Rattle.content.specs.declared.Answer.{Answer}
 use Rattle.content.specs.Options.{defaults, filterOptions, optionsRefusal}
 use Rattle.content.specs.State.{fresh, settled}
-use Rattle.content_calls.specs.Call.{Call, luma, bgr, hsv, clear, frameCall, called}
-use Rattle.content_claim.specs.View.{isRefused, viewOf}
-use Rattle.content_claim.specs.Claim.{Made, runFrom, run, withCut, ContentClaim}
-use Rattle.content_claim.proofs.Good.{Good, fresh-good, own-number, answered, stays}
-use Rattle.content_claim.proofs.Numbers.{own-below}
+use Rattle.content.specs.Step.{called}
+use Rattle.content_claim.specs.Claim.{viewOf, contentRun, withCut, ContentClaim}
+use Rattle.content_claim.proofs.Good.{Good, fresh-good, laws}
 use Rattle.content_claim.proofs.Views.{kept, acts}
 
 abbrev next : Detector → Call → Detector
 next d c = called d c .answer .detector
 
-refused-stays : (d : Detector) (n w h : ℕ) (p : Planes) (ts : Timestamp) (store : List ℕ) → not (eqb n 0) ≡ true
-    → frameCall d n w h p ts store .answer .detector ≡ d
-unfolding frameCall
-refused-stays d n w h p ts store e = rw (not-true (eqb n 0) e)
-
 module _ (o : Options) (ok : optionsRefusal o ≡ 0) where
-  -- a refused call returns the old state
-  same : (d : Detector) (c : Call) → Good o d → isRefused c ≡ true → next d c ≡ d
-  same d (luma plane w h stride ts m) g e = refused-stays d _ w h _ ts (m .store) (rw (own-number o ok d (luma plane w h stride ts m) g) e)
-  same d (bgr pixels w h stride ts m) g e = refused-stays d _ w h _ ts (m .store) (rw (own-number o ok d (bgr pixels w h stride ts m) g) e)
-  same d (hsv hs ss vs w h stride ts m) g e = refused-stays d _ w h _ ts (m .store) (rw (own-number o ok d (hsv hs ss vs w h stride ts m) g) e)
-  same d clear g e = cc
-
-  left-out : (d : Detector) → Good o d → (cs : List Call) → runFrom d (leaveOut isRefused cs) ≡ leaveOut (λ (m : Made). isRefused (m .call)) (runFrom d cs)
-  left-out d g [] = refl
-  left-out d g (c ∷ cs) = by-refused (isRefused c) refl (left-out (next d c) (stays o ok d c g) cs)
-    where
-      rest : List Call
-      rest = leaveOut isRefused cs
-
-      after : List Made
-      after = leaveOut (λ (m : Made). isRefused (m .call)) (runFrom (next d c) cs)
-
-      by-refused : (b : Bool) → isRefused c ≡ b → runFrom (next d c) rest ≡ after
-          → runFrom d (cond b rest (c ∷ rest)) ≡ cond b after (record { call = c; outcome = called d c } ∷ after)
-      by-refused true e ih = subst (λ (u : Detector). runFrom u rest ≡ after) (same d c g e) ih
-      by-refused false e ih = ap (λ xs. record { call = c; outcome = called d c } ∷ xs) ih
-
-  -- what holds of each call at a good state holds of each call of a run
-  each : (P : Made → Type 0) → ((d : Detector) (c : Call) → Good o d → P (record { call = c; outcome = called d c }))
-      → (d : Detector) → Good o d → (cs : List Call) → All P (runFrom d cs)
-  each P f d g [] = tt
-  each P f d g (c ∷ cs) = (f d c g, each P f (next d c) (stays o ok d c g) cs)
+  pub stays : (d : Detector) (c : Call) → Good o d → Good o (next d c)
+  stays = runs-stay _ _ _ _ _ _ _ _ (Good o) (laws o ok)
 
   -- the run, as `filter`'s law sees it
   seen-is : (d : Detector) (cs : List Call)
-      → seen next (λ (_ : Detector) (c : Call). viewOf o c) (λ (d : Detector) (c : Call). called d c .answer .cut) d cs ≡ map (withCut o) (runFrom d cs)
+      → seenByFilter next (λ (_ : Detector) (c : Call). viewOf o c) (λ (d : Detector) (c : Call). called d c .answer .cut) d cs ≡ map (withCut o) (runFrom called (λ (a : Answer). a .detector) d cs)
   seen-is d [] = refl
   seen-is d (c ∷ cs) = ap (λ xs. (viewOf o c brought called d c .answer .cut) ∷ xs) (seen-is (next d c) cs)
 
-  holds : (cs : List Call) → Holds (filterOptions o) (map (withCut o) (run o cs))
+  holds : (cs : List Call) → StretchesHold (filterOptions o) (map (withCut o) (contentRun o cs))
   holds cs =
       rw (← seen-is (fresh o) cs)
-      (acts-holds next (λ _ c. viewOf o c) (Good o) (stays o ok) (filterOptions o) (λ d c. called d c .answer .cut) kept (acts o ok)
+      (acts-holds next (λ _ c. viewOf o c) (Good o) stays (filterOptions o) (λ d c. called d c .answer .cut) kept (acts o ok)
       (fresh o) (fresh-good o) refl cs)
 
   settled-is : settled o .detector ≡ fresh o
@@ -82,9 +50,7 @@ pub content-claim : (o : Options) → optionsRefusal o ≡ 0 → (calls : List C
 content-claim o ok calls =
     record {
       start = settled-is o ok;
-      numbers = each o ok _ (answered o ok) (fresh o) (fresh-good o) calls;
-      never-bad = each o ok _ (λ d c g. rw (answered o ok d c g) (own-below c)) (fresh o) (fresh-good o) calls;
-      left-out = left-out o ok (fresh o) (fresh-good o) calls;
+      each-call = run-claim _ _ _ _ _ _ _ _ (Good o) (laws o ok) (fresh o) (fresh-good o) calls;
       holds = holds o ok calls;
     }
 
@@ -93,7 +59,7 @@ pub defaults-accepted : optionsRefusal defaults ≡ 0
 unfolding settingsRefusal anyTooHeavy tooHeavy allZero le ofInt isNan
 defaults-accepted = refl
 
--- "which is what a settings call returns", an accepted one or a refused one: the claim holds under the settings that it returned
+-- a settings call, accepted or refused: the claim holds under the settings that it returned
 pub any-settings : (o : Options) (calls : List Call) → (settled o .detector ≡ fresh (settled o .detector .options)) × ContentClaim (settled o .detector .options) calls
 unfolding settled
 any-settings o calls = (refl, by-refusal (eqb (optionsRefusal o) 0) refl)

@@ -1,45 +1,47 @@
--- Demand 3 for lists of content calls, in the words of document 01's second paragraph. Stretches, scored frames, cuts, choices and distances
--- are those of `filter`'s Claim.antt, which are said of the calls and their answers alone.
+-- What holds of every list of content calls under settings that are accepted. Stretches, scored frames, cuts, choices and distances are those
+-- of `filter`'s Claim.antt. How a call counts there is said of the settings and the call alone, and not of the detector's state.
 use mathlib.Core.Path.{_≡_}
-use mathlib.Core.List.{List, [], _∷_, map}
-use Prim.Native.Nat.{_<_}
+use mathlib.Core.Bool.{true, cond}
+use mathlib.Core.List.{List, map}
+use Prim.Native.Nat.{ℕ}
+use lib.Ieee.{Float, le}
 use Rattle.timestamp.specs.declared.MaybeTimestamp.{MaybeTimestamp}
-use Rattle.filter.specs.Calls.{Answered, _brought_}
-use Rattle.filter.specs.Claim.{All, leaveOut, Holds}
+use Rattle.score.specs.Scores.{scoreOf}
+use Rattle.stream.specs.Stream.{componentsOf}
+use Rattle.scoring.specs.Planes.{Planes}
+use Rattle.filter.specs.Calls.{FilterCall, refused, frame, clear, Answered, _brought_}
+use Rattle.filter.specs.Claim.{StretchesHold}
+use Rattle.frame_call.specs.Call.{Call, byCall, sumsOf}
+use Rattle.frame_call.specs.Run.{isRefused, MadeCall, runFrom, RunClaim}
 use Rattle.content.specs.declared.Options.{Options}
-use Rattle.content.specs.declared.Detector.{Detector}
-use Rattle.content.specs.Options.{filterOptions}
+use Rattle.content.specs.declared.Answer.{Answer}
+use Rattle.content.specs.Options.{filterOptions, pictureOptions}
 use Rattle.content.specs.State.{fresh, settled}
-use Rattle.content_calls.specs.Call.{Call, Outcome, called}
-use Rattle.content_claim.specs.View.{ownNumber, isRefused, viewOf}
+use Rattle.content.specs.Step.{called}
 
--- a call, and what it brought: its answer, and the store after it
-pub record Made : Type 0 where
-  pub call : Call
-  pub outcome : Outcome
+-- the score of a frame under these settings, with the store as its call finds it
+unfoldable pub frameScore : Options → (width height : ℕ) → Planes → (store : List ℕ) → Float
+frameScore o w h p store = scoreOf (componentsOf (sumsOf (pictureOptions o) true w h p store)) (o .weights)
 
--- "Each call gets the state that the last one returned, .. with any frame, stamp, store, scratch and magnitudes": these are in the call
-abbrev pub runFrom : Detector → List Call → List Made
-runFrom d [] = []
-runFrom d (c ∷ cs) = record { call = c; outcome = called d c } ∷ runFrom (called d c .answer .detector) cs
+-- A call as `filter`'s claim sees it: refused; a frame with its size, its stamp, and whether its score is at or over the threshold, which is
+-- not asked of the first frame of a stretch; or a clear.
+abbrev pub viewOf : Options → Call → FilterCall
+viewOf o c =
+    byCall (λ u w h p ts m. cond (isRefused c) refused (frame w h (record { stamp = ts; above = le (o .threshold) (frameScore o w h p (m .store)) }))) clear c
 
--- "It starts from a fresh state"
-abbrev pub run : Options → List Call → List Made
-run o calls = runFrom (fresh o) calls
+-- the calls of a list, from a fresh state
+abbrev pub contentRun : Options → List Call → List (MadeCall Answer)
+contentRun o calls = runFrom called (λ (a : Answer). a .detector) (fresh o) calls
 
 -- a call as `filter`'s claim sees it, with the cut or none that it answered
-abbrev pub withCut : Options → Made → Answered MaybeTimestamp
+abbrev pub withCut : Options → MadeCall Answer → Answered MaybeTimestamp
 withCut o m = viewOf o (m .call) brought m .outcome .answer .cut
 
--- Demand 3, of a list of content calls under settings that a settings call accepts
+-- the claim, of a list of content calls under settings that a settings call accepts
 pub record ContentClaim (o : Options) (calls : List Call) : Type 0 where
-  -- "a fresh state, which is what a settings call returns"
+  -- a settings call returns a fresh state
   pub start : settled o .detector ≡ fresh o
-  -- the state is never bad: each call is answered by its own number, which is never 15
-  pub numbers : All (λ (m : Made). m .outcome .answer .number ≡ ownNumber (m .call)) (run o calls)
-  pub never-bad : All (λ (m : Made). m .outcome .answer .number < 15) (run o calls)
-  -- "When refused calls are left out, each other call still brings what it brought": its whole answer, and the store after it
-  pub left-out : run o (leaveOut isRefused calls) ≡ leaveOut (λ (m : Made). isRefused (m .call)) (run o calls)
-  -- of the stretches, that are by the calls alone, and "the stamps answered, in the order of the calls": each stretch keeps the rule of the
-  -- mode, and every cut is a stretch's
-  pub holds : Holds (filterOptions o) (map (withCut o) (run o calls))
+  -- each call is answered by its own number, which is never 15; refused calls left out, each other call brings what it brought
+  pub each-call : RunClaim called (λ (a : Answer). a .detector) (λ (a : Answer). a .number) (fresh o) calls
+  -- each stretch keeps the rule of the mode, its first frame gives no cut, and every cut is a stretch's
+  pub holds : StretchesHold (filterOptions o) (map (withCut o) (contentRun o calls))

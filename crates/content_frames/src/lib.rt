@@ -1,74 +1,25 @@
 // The content detector's frame calls. Any frame, state record and lent memory is taken: what is wrong with it is answered by a
 // number. The memory is lent: a store of the last frame's planes, which is to be handed back as it was left, scratch and
-// magnitudes.
+// magnitudes. What a frame is to a detector is in the crate `frame_call`; its step is added here.
 ghost use mathlib.Core.Path.{_≡_};
-ghost use Prim.Native.Nat.{_+_, _*_, _≤_};
-ghost use lib.ListN.{length};
-ghost use Rattle.stream.specs.Stream.{memoryRefusal};
-ghost use Rattle.scoring.specs.Planes.{planesIn};
-ghost use Rattle.content_calls.specs.Call.{callRefusal, accepted, called, luma, bgr, hsv, memory};
-ghost use Rattle.content_calls.specs.Called.{Called};
+ghost use Rattle.frame_call.specs.Call.{luma, bgr, hsv, memory, answeredBy, Called};
+ghost use Rattle.content.specs.State.{refusedAnswer};
+ghost use Rattle.content.specs.Step.{stepped, called};
 use content::Answer;
 use content::Detector;
+use frame_call::Picture;
 use timestamp::Timestamp;
 
-// The number of a frame call's refusal, or 0, by that of the frame.
-fn call_refusal(
-    d: Detector,
-    frame: u32,
-    store: usize,
-    scratch: usize,
-    magnitudes: usize,
-    width: u32,
-    height: u32,
-) -> u32
-    requires { ⌜ (frame ≡ 0 → (width ≤ 4096) × (height ≤ 4096)) ⌝ }
-    ensures { λ r. ⌜ r ≡ callRefusal d frame (memoryRefusal store scratch magnitudes width height) ⌝ }
+// The answer to a frame: the step of an accepted one, or the refusal's number.
+fn answer_to(d: Detector, ts: Timestamp, p: Picture) -> Answer
+    ensures { λ r. ⌜ r ≡ answeredBy (stepped d ts) (refusedAnswer d) p ⌝ }
+    ensures { λ r. ⌜ r .number ≡ p .number ⌝ }
 {
-    if content::is_bad(d) {
-        return 15;
+    if 0 < p.number {
+        return content::without_score(d, p.number);
     }
-    if 0 < frame {
-        return frame;
-    }
-    stream::memory_refusal(store, scratch, magnitudes, width, height)
-}
-
-// What an accepted frame brings, once its planes are at the start of the scratch.
-fn accept(
-    d: Detector,
-    store: &mut [u8],
-    scratch: &mut [u8],
-    magnitudes: &mut [i32],
-    width: u32,
-    height: u32,
-    ts: Timestamp,
-) -> Answer
-    requires { ⌜ (width ≤ 4096) × (height ≤ 4096) ⌝ }
-    requires { ⌜ width * height + (width * height + (width * height + width * height)) ≤ length (now store) ⌝ }
-    requires { ⌜ width * height + (width * height + (width * height + width * height)) ≤ length (now scratch) ⌝ }
-    requires { ⌜ width * height ≤ length (now magnitudes) ⌝ }
-    ensures { λ r. ⌜ r ≡ accepted d width height (planesIn (width * height) (now (scratch .entry))) ts (now (store .entry)) .answer ⌝ }
-    ensures { λ r. ⌜ now (store .exit) ≡ accepted d width height (planesIn (width * height) (now (scratch .entry))) ts (now (store .entry)) .store ⌝ }
-{
-    let o = d.options;
-    let was = d.stream;
-    let weights = o.weights;
-    let size = o.kernel_size;
-    let edges = score::edges_enabled(weights);
-    let k = scoring::kernel(size, width, height);
-    let scored = stream::is_scored(was, width, height);
-    let sums = scoring::frame_sums(
-        store,
-        scratch,
-        magnitudes,
-        width as usize,
-        height as usize,
-        edges,
-        k,
-        scored,
-    );
-    content::step(d, width, height, ts, sums)
+    let s = p.stream;
+    content::step(d, ts, s)
 }
 
 // A luma frame.
@@ -83,26 +34,25 @@ pub fn process_luma(
     scratch: &mut [u8],
     magnitudes: &mut [i32],
 ) -> Answer
-    ensures { λ r. ⌜ Called (called d (luma (now (plane .entry)) width height stride ts (memory (now (store .entry)) (now (scratch .entry)) (now (magnitudes .entry))))) r (memory (now (store .entry)) (now (scratch .entry)) (now (magnitudes .entry))) (memory (now (store .exit)) (now (scratch .exit)) (now (magnitudes .exit))) ⌝ }
+    ensures { λ r. ⌜ Called (called d (luma (now (plane .entry)) width height stride ts (memory (now (store .entry)) (now (scratch .entry)) (now (magnitudes .entry))))) r (r .number) (memory (now (store .entry)) (now (scratch .entry)) (now (magnitudes .entry))) (memory (now (store .exit)) (now (scratch .exit)) (now (magnitudes .exit))) ⌝ }
 {
-    let frame = frame::luma_refusal(plane.len(), width, height, stride);
-    let luma_number = call_refusal(
-        d,
-        frame,
-        store.len(),
-        scratch.len(),
-        magnitudes.len(),
+    let was = d.stream;
+    let o = d.options;
+    let settings = content::picture_options(o);
+    let bad = content::is_bad(d);
+    let p = frame_call::process_luma(
+        was,
+        settings,
+        bad,
+        plane,
         width,
         height,
+        stride,
+        store,
+        scratch,
+        magnitudes,
     );
-    if 0 < luma_number {
-        return content::without_score(d, luma_number);
-    }
-    let w = width as usize;
-    let h = height as usize;
-    let e = 3 * (w * h);
-    scoring::fill_luma(&mut scratch[0..e], plane, w, h, stride as usize);
-    accept(d, store, scratch, magnitudes, width, height, ts)
+    answer_to(d, ts, p)
 }
 
 // A BGR frame.
@@ -117,26 +67,25 @@ pub fn process_bgr(
     scratch: &mut [u8],
     magnitudes: &mut [i32],
 ) -> Answer
-    ensures { λ r. ⌜ Called (called d (bgr (now (pixels .entry)) width height stride ts (memory (now (store .entry)) (now (scratch .entry)) (now (magnitudes .entry))))) r (memory (now (store .entry)) (now (scratch .entry)) (now (magnitudes .entry))) (memory (now (store .exit)) (now (scratch .exit)) (now (magnitudes .exit))) ⌝ }
+    ensures { λ r. ⌜ Called (called d (bgr (now (pixels .entry)) width height stride ts (memory (now (store .entry)) (now (scratch .entry)) (now (magnitudes .entry))))) r (r .number) (memory (now (store .entry)) (now (scratch .entry)) (now (magnitudes .entry))) (memory (now (store .exit)) (now (scratch .exit)) (now (magnitudes .exit))) ⌝ }
 {
-    let frame = frame::bgr_refusal(pixels.len(), width, height, stride);
-    let bgr_number = call_refusal(
-        d,
-        frame,
-        store.len(),
-        scratch.len(),
-        magnitudes.len(),
+    let was = d.stream;
+    let o = d.options;
+    let settings = content::picture_options(o);
+    let bad = content::is_bad(d);
+    let p = frame_call::process_bgr(
+        was,
+        settings,
+        bad,
+        pixels,
         width,
         height,
+        stride,
+        store,
+        scratch,
+        magnitudes,
     );
-    if 0 < bgr_number {
-        return content::without_score(d, bgr_number);
-    }
-    let w = width as usize;
-    let h = height as usize;
-    let e = 3 * (w * h);
-    scoring::fill_bgr(&mut scratch[0..e], pixels, w, h, stride as usize);
-    accept(d, store, scratch, magnitudes, width, height, ts)
+    answer_to(d, ts, p)
 }
 
 // An HSV frame.
@@ -153,39 +102,25 @@ pub fn process_hsv(
     scratch: &mut [u8],
     magnitudes: &mut [i32],
 ) -> Answer
-    ensures { λ r. ⌜ Called (called d (hsv (now (hue .entry)) (now (saturation .entry)) (now (value .entry)) width height stride ts (memory (now (store .entry)) (now (scratch .entry)) (now (magnitudes .entry))))) r (memory (now (store .entry)) (now (scratch .entry)) (now (magnitudes .entry))) (memory (now (store .exit)) (now (scratch .exit)) (now (magnitudes .exit))) ⌝ }
+    ensures { λ r. ⌜ Called (called d (hsv (now (hue .entry)) (now (saturation .entry)) (now (value .entry)) width height stride ts (memory (now (store .entry)) (now (scratch .entry)) (now (magnitudes .entry))))) r (r .number) (memory (now (store .entry)) (now (scratch .entry)) (now (magnitudes .entry))) (memory (now (store .exit)) (now (scratch .exit)) (now (magnitudes .exit))) ⌝ }
 {
-    let frame = frame::hsv_refusal(
-        hue.len(),
-        saturation.len(),
-        value.len(),
-        width,
-        height,
-        stride,
-    );
-    let hsv_number = call_refusal(
-        d,
-        frame,
-        store.len(),
-        scratch.len(),
-        magnitudes.len(),
-        width,
-        height,
-    );
-    if 0 < hsv_number {
-        return content::without_score(d, hsv_number);
-    }
-    let w = width as usize;
-    let h = height as usize;
-    let e = 3 * (w * h);
-    scoring::fill_hsv(
-        &mut scratch[0..e],
+    let was = d.stream;
+    let o = d.options;
+    let settings = content::picture_options(o);
+    let bad = content::is_bad(d);
+    let p = frame_call::process_hsv(
+        was,
+        settings,
+        bad,
         hue,
         saturation,
         value,
-        w,
-        h,
-        stride as usize,
+        width,
+        height,
+        stride,
+        store,
+        scratch,
+        magnitudes,
     );
-    accept(d, store, scratch, magnitudes, width, height, ts)
+    answer_to(d, ts, p)
 }

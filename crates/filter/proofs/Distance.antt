@@ -17,7 +17,8 @@ use Rattle.filter.specs.declared.Filter.{Filter}
 use Rattle.filter.specs.declared.FilterStep.{FilterStep}
 use Rattle.filter.specs.Flash.{fresh, seeded, minLengthMet, numMerged, cutIf, advanced, mergeHeld, mergeFree, filterMerge, flashFilter}
 use Rattle.filter.specs.Calls.{Frame}
-use Rattle.filter.specs.Claim.{All, KeepsDistance, NeverFall, stamps, cutsIn, Merged}
+use Rattle.laws.specs.Lists.{All}
+use Rattle.filter.specs.Claim.{KeepsDistance, NeverFall, stamps, cutsIn, Merged}
 use Rattle.filter.proofs.Frames.{answersFrom, cutsFrom, Chain, chain-down, chain-keeps, and-true}
 
 abbrev counting : Timestamp → Bool → Bool → MaybeTimestamp → Filter

@@ -12,7 +12,8 @@ use Rattle.filter.specs.declared.FilterOptions.{FilterOptions}
 use Rattle.filter.specs.declared.Filter.{Filter}
 use Rattle.filter.specs.Flash.{flashFilter}
 use Rattle.filter.specs.Calls.{Frame}
-use Rattle.filter.specs.Claim.{All, Choice, none, skip, pick, KeepsDistance, stamps, cutsIn}
+use Rattle.laws.specs.Lists.{All}
+use Rattle.filter.specs.Claim.{Choice, none, skip, pick, KeepsDistance, stamps, cutsIn}
 
 -- what the filter φ answers to scored frames, one after another
 abbrev pub answersFrom : FilterOptions → Filter → List Frame → List MaybeTimestamp

@@ -14,7 +14,8 @@ use Rattle.filter.specs.declared.FilterOptions.{FilterOptions}
 use Rattle.filter.specs.declared.Filter.{Filter}
 use Rattle.filter.specs.Flash.{fresh, virtualSeed, seeded, minLengthMet, suppressed, flashFilter}
 use Rattle.filter.specs.Calls.{Frame}
-use Rattle.filter.specs.Claim.{All, Choice, none, skip, pick, NeverFall, stamps, Suppressed}
+use Rattle.laws.specs.Lists.{All}
+use Rattle.filter.specs.Claim.{Choice, none, skip, pick, NeverFall, stamps, Suppressed}
 use Rattle.filter.proofs.Frames.{cutsFrom, Chain, chain-down, chain-distance, chain-from, keeps-chain, choice-cases, choice-rest, choice-length, choice-first, and-true}
 
 -- the filter that counts from t

@@ -10,8 +10,9 @@ use Rattle.filter.specs.declared.FilterOptions.{FilterOptions}
 use Rattle.filter.specs.declared.Filter.{Filter}
 use Rattle.filter.specs.declared.FilterStep.{FilterStep}
 use Rattle.filter.specs.Flash.{fresh}
-use Rattle.filter.specs.Calls.{Frame, Call, refused, frame, clear, State, start, hasScore, filtered, turn, Answered, _brought_, runFrom, run}
-use Rattle.filter.specs.Claim.{All, isRefused, leaveOut, withoutRefused, Shot, Stretch, goesOn, joined, stretches, scoredFrames, answers, cutsIn, cuts, allCuts}
+use Rattle.filter.specs.Calls.{Frame, FilterCall, refused, frame, clear, State, start, hasScore, filtered, turn, Answered, _brought_, filterRunFrom, filterRun}
+use Rattle.laws.specs.Lists.{All, leaveOut}
+use Rattle.filter.specs.Claim.{filterRefused, withoutRefused, Shot, Stretch, goesOn, joinedStretch, stretches, scoredFrames, answers, cutsIn, cuts, allCuts}
 use Rattle.filter.proofs.Frames.{answersFrom, cutsFrom}
 
 module _ (o : FilterOptions) where
@@ -30,7 +31,7 @@ module _ (o : FilterOptions) where
   Part false φ (t ∷ ts) = Played t × All Played ts
 
   part-frame : (g b : Bool) (φ : Filter) (f : Frame) (ts : List (Stretch MaybeTimestamp)) → let r : FilterStep = filtered o b φ f in
-      Part (g && true) (r .filter) ts → Part b φ (joined g (record { frame = f; answer = r .cut }) ts)
+      Part (g && true) (r .filter) ts → Part b φ (joinedStretch g (record { frame = f; answer = r .cut }) ts)
   part-frame g true φ f [] p = (refl, tt)
   part-frame g false φ f [] p = ((refl, refl), tt)
   part-frame true true φ f (t ∷ ts) p = (ap (λ rs. filtered o true φ f .cut ∷ rs) (p .0), p .1)
@@ -47,22 +48,22 @@ module _ (o : FilterOptions) where
   part-all φ [] p = tt
   part-all φ (t ∷ ts) p = p
 
-  follow : (st : State) (calls : List Call) → let xs : List (Answered MaybeTimestamp) = runFrom o st calls in
+  follow : (st : State) (calls : List FilterCall) → let xs : List (Answered MaybeTimestamp) = filterRunFrom o st calls in
       Part (goesOn (st .width) (st .height) xs && st .«has_previous») (st .filter) (stretches xs)
   follow st [] = tt
   follow st (refused ∷ cs) = follow st cs
   follow st (frame w h f ∷ cs) =
       let next = turn o st (frame w h f) .state in
-      let xs = runFrom o next cs in
+      let xs = filterRunFrom o next cs in
       part-frame (goesOn w h xs) (hasScore st w h) (st .filter) f (stretches xs) (follow next cs)
   follow st (clear ∷ cs) =
       let next = turn o st clear .state in
-      let xs = runFrom o next cs in
+      let xs = filterRunFrom o next cs in
       part-clear (goesOn (next .width) (next .height) xs) fresh (st .filter) (stretches xs) (follow next cs)
 
-  pub played : (calls : List Call) → All Played (stretches (run o calls))
+  pub played : (calls : List FilterCall) → All Played (stretches (filterRun o calls))
   played calls =
-      let xs = run o calls in
+      let xs = filterRun o calls in
       part-all fresh (stretches xs) (part-clear (goesOn 0 0 xs) fresh fresh (stretches xs) (follow start calls))
 
   -- the cuts of a stretch are the filter's
@@ -75,32 +76,32 @@ module _ (o : FilterOptions) where
   cuts-first None rs cs e = e
   cuts-first (At t) rs cs e = ap (λ ts. t .micros ∷ ts) e
 
-  cuts-joined : (g : Bool) (x : Shot MaybeTimestamp) (ts : List (Stretch MaybeTimestamp)) → allCuts (joined g x ts) ≡ cutsIn (x .answer ∷ []) ++ allCuts ts
+  cuts-joined : (g : Bool) (x : Shot MaybeTimestamp) (ts : List (Stretch MaybeTimestamp)) → allCuts (joinedStretch g x ts) ≡ cutsIn (x .answer ∷ []) ++ allCuts ts
   cuts-joined g x [] = refl
   cuts-joined false x (t ∷ ts) = refl
   cuts-joined true x (t ∷ ts) = by-answer (x .answer) refl
     where
-      by-answer : (a : MaybeTimestamp) → x .answer ≡ a → allCuts (joined true x (t ∷ ts)) ≡ cutsIn (x .answer ∷ []) ++ (cuts t ++ allCuts ts)
+      by-answer : (a : MaybeTimestamp) → x .answer ≡ a → allCuts (joinedStretch true x (t ∷ ts)) ≡ cutsIn (x .answer ∷ []) ++ (cuts t ++ allCuts ts)
       by-answer None e = rw e
       by-answer (At u) e = rw e
 
-  no-more : (st : State) (calls : List Call) → cutsIn (answers (runFrom o st calls)) ≡ allCuts (stretches (runFrom o st calls))
+  no-more : (st : State) (calls : List FilterCall) → cutsIn (answers (filterRunFrom o st calls)) ≡ allCuts (stretches (filterRunFrom o st calls))
   no-more st [] = refl
   no-more st (refused ∷ cs) = no-more st cs
   no-more st (frame w h f ∷ cs) =
       let r = turn o st (frame w h f) in
-      let xs = runFrom o (r .state) cs in
+      let xs = filterRunFrom o (r .state) cs in
       cuts-first (r .cut) (answers xs) (allCuts (stretches xs)) (no-more (r .state) cs)
       ∙ sym (cuts-joined (goesOn w h xs) (record { frame = f; answer = r .cut }) (stretches xs))
   no-more st (clear ∷ cs) = no-more (turn o st clear .state) cs
 
-  pub no-others : (calls : List Call) → cutsIn (answers (run o calls)) ≡ allCuts (stretches (run o calls))
+  pub no-others : (calls : List FilterCall) → cutsIn (answers (filterRun o calls)) ≡ allCuts (stretches (filterRun o calls))
   no-others calls = no-more start calls
 
   -- ---- refused calls
 
-  without : (st : State) (calls : List Call)
-      → runFrom o st (leaveOut isRefused calls) ≡ withoutRefused (runFrom o st calls)
+  without : (st : State) (calls : List FilterCall)
+      → filterRunFrom o st (leaveOut filterRefused calls) ≡ withoutRefused (filterRunFrom o st calls)
   without st [] = refl
   without st (refused ∷ cs) = without st cs
   without st (frame w h f ∷ cs) =
@@ -110,5 +111,5 @@ module _ (o : FilterOptions) where
       let r = turn o st clear in
       ap (λ xs. (clear brought r .cut) ∷ xs) (without (r .state) cs)
 
-  pub left-out : (calls : List Call) → run o (leaveOut isRefused calls) ≡ withoutRefused (run o calls)
+  pub left-out : (calls : List FilterCall) → filterRun o (leaveOut filterRefused calls) ≡ withoutRefused (filterRun o calls)
   left-out calls = without start calls

@@ -6,8 +6,9 @@ use Rattle.filter.specs.declared.FilterMode.{FilterMode}
 use Rattle.filter.specs.declared.FilterMode.the-variants.{Suppress, Merge}
 use Rattle.filter.specs.declared.FilterOptions.{FilterOptions}
 use Rattle.filter.specs.Flash.{fresh}
-use Rattle.filter.specs.Calls.{Frame, Call, run}
-use Rattle.filter.specs.Claim.{All, Stretch, stretches, scoredFrames, InMode, Keeps, Claim}
+use Rattle.filter.specs.Calls.{Frame, FilterCall, filterRun}
+use Rattle.laws.specs.Lists.{All}
+use Rattle.filter.specs.Claim.{Stretch, stretches, scoredFrames, InMode, StretchKeeps, FilterClaim}
 use Rattle.filter.proofs.Frames.{cutsFrom}
 use Rattle.filter.proofs.Greedy.{suppressed-keeps}
 use Rattle.filter.proofs.Distance.{merged-keeps}
@@ -25,12 +26,12 @@ by-mode o Merge e fs = merged-keeps o e fs
 pub filter-keeps : (o : FilterOptions) (fs : List Frame) → InMode (o .«filter_mode») o fs (cutsFrom o fresh fs)
 filter-keeps o fs = by-mode o (o .«filter_mode») refl fs
 
-keeps : (o : FilterOptions) (t : Stretch MaybeTimestamp) → Played o t → Keeps o t
+keeps : (o : FilterOptions) (t : Stretch MaybeTimestamp) → Played o t → StretchKeeps o t
 keeps o t p = rw (cuts-are o t p) (filter-keeps o (scoredFrames t))
 
-pub theorem : (o : FilterOptions) (calls : List Call) → Claim o calls
+pub theorem : (o : FilterOptions) (calls : List FilterCall) → FilterClaim o calls
 theorem o calls =
     record {
-      holds = record { first-frames = all-map (λ t p. p .0) (stretches (run o calls)) (played o calls); each-stretch = all-map (keeps o) (stretches (run o calls)) (played o calls); no-others = no-others o calls };
+      holds = record { first-frames = all-map (λ t p. p .0) (stretches (filterRun o calls)) (played o calls); each-stretch = all-map (keeps o) (stretches (filterRun o calls)) (played o calls); no-others = no-others o calls };
       left-out = left-out o calls;
     }

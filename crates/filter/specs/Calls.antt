@@ -1,4 +1,4 @@
--- A list of calls on one detector, as the filter sees them (document 01, the second paragraph), and how a detector over the filter acts on them.
+-- A list of calls on one detector, as the filter sees them, and how a detector over the filter acts on them.
 -- A content detector's calls act on these: a frame call that it accepts is a `frame` here, whatever the pixels were.
 use Prim.Native.Nat.{ℕ}
 use mathlib.Core.Bool.{Bool, true, false, _&&_}
@@ -17,10 +17,11 @@ pub record Frame : Type 0 where
   pub stamp : Timestamp
   pub above : Bool
 
-pub data Call : Type 0 where
-  refused : Call  -- a call that is refused
-  frame : (width height : ℕ) → Frame → Call  -- an accepted frame call
-  clear : Call  -- an accepted `clear`
+-- a call, as far as it concerns the filter
+pub data FilterCall : Type 0 where
+  refused : FilterCall  -- a call that is refused
+  frame : (width height : ℕ) → Frame → FilterCall  -- an accepted frame call
+  clear : FilterCall  -- an accepted `clear`
 
 -- what one call hands to the next
 pub record State : Type 0 where
@@ -47,11 +48,12 @@ abbrev pub filtered : FilterOptions → (scored : Bool) → Filter → Frame →
 filtered o true φ f = flashFilter o φ (f .stamp) (f .above)
 filtered o false φ f = record { filter = fresh; cut = None }
 
+-- the state after a frame of this size, by the filter's step
 abbrev pub turnTo : (width height : ℕ) → FilterStep → Turn
 turnTo w h s = record { state = record { «has_previous» = true; width = w; height = h; filter = s .filter }; cut = s .cut }
 
 -- a refusal returns the old state and no cut; `clear` keeps the size, all else is as at the start
-abbrev pub turn : FilterOptions → State → Call → Turn
+abbrev pub turn : FilterOptions → State → FilterCall → Turn
 turn o st refused = record { state = st; cut = None }
 turn o st (frame w h f) = turnTo w h (filtered o (hasScore st w h) (st .filter) f)
 turn o st clear = record { state = record { «has_previous» = false; width = st .width; height = st .height; filter = fresh }; cut = None }
@@ -59,13 +61,13 @@ turn o st clear = record { state = record { «has_previous» = false; width = st
 -- a call with what it brought
 infixl 20 _brought_
 pub data Answered (A : Type 0) : Type 0 where
-  _brought_ : Call → A → Answered A
+  _brought_ : FilterCall → A → Answered A
 
 -- each call gets the state that the last one returned
-abbrev pub runFrom : FilterOptions → State → List Call → List (Answered MaybeTimestamp)
-runFrom o st [] = []
-runFrom o st (c ∷ cs) = (c brought turn o st c .cut) ∷ runFrom o (turn o st c .state) cs
+abbrev pub filterRunFrom : FilterOptions → State → List FilterCall → List (Answered MaybeTimestamp)
+filterRunFrom o st [] = []
+filterRunFrom o st (c ∷ cs) = (c brought turn o st c .cut) ∷ filterRunFrom o (turn o st c .state) cs
 
 -- a list of calls, from a fresh state
-abbrev pub run : FilterOptions → List Call → List (Answered MaybeTimestamp)
-run o calls = runFrom o start calls
+abbrev pub filterRun : FilterOptions → List FilterCall → List (Answered MaybeTimestamp)
+filterRun o calls = filterRunFrom o start calls

@@ -1,47 +1,45 @@
--- Demand 3, in the words of document 01's second paragraph: what holds of every list of calls. Everything here is said of the calls and their
--- answers alone, and nothing of the detector's state.
+-- What holds of every list of calls. Everything here is said of the calls and their answers alone, and nothing of the detector's state.
 use Prim.Native.Nat.{ℕ, _≤_}
 use mathlib.Core.Path.{_≡_}
-use mathlib.Core.Bool.{Bool, true, false, cond, _&&_}
+use mathlib.Core.Bool.{Bool, true, false, _&&_}
 use mathlib.Core.List.{List, [], _∷_, _++_, map}
 use lib.Dec.{eqb}
 use lib.IntN.{ℤ, pos, _+ℤ_}
 use lib.ListN.{length}
 use lib.Signed.{_≤ℤ_}
+use Rattle.laws.specs.Lists.{All, leaveOut}
 use Rattle.timestamp.specs.declared.MaybeTimestamp.{MaybeTimestamp}
 use Rattle.timestamp.specs.declared.MaybeTimestamp.the-variants.{None, At}
 use Rattle.filter.specs.declared.FilterMode.{FilterMode}
 use Rattle.filter.specs.declared.FilterMode.the-variants.{Suppress, Merge}
 use Rattle.filter.specs.declared.FilterOptions.{FilterOptions}
 use Rattle.filter.specs.Flash.{virtualSeed}
-use Rattle.filter.specs.Calls.{Frame, Call, refused, frame, clear, Answered, _brought_, run}
+use Rattle.filter.specs.Calls.{Frame, FilterCall, refused, frame, clear, Answered, _brought_, filterRun}
 
--- ---- "When refused calls are left out, each other call still brings what it brought"
+-- ---- refused calls left out
 
-abbrev pub isRefused : Call → Bool
-isRefused refused = true
-isRefused (frame w h f) = false
-isRefused clear = false
+-- a refused call
+abbrev pub filterRefused : FilterCall → Bool
+filterRefused refused = true
+filterRefused (frame w h f) = false
+filterRefused clear = false
 
-abbrev pub callOf : {A : Type 0} → Answered A → Call
+-- the call of an answered call
+abbrev pub callOf : {A : Type 0} → Answered A → FilterCall
 callOf (c brought a) = c
 
--- the list without the elements of which `out` holds
-abbrev pub leaveOut : {A : Type 0} → (A → Bool) → List A → List A
-leaveOut out [] = []
-leaveOut out (x ∷ xs) = cond (out x) (leaveOut out xs) (x ∷ leaveOut out xs)
-
+-- the answered calls that were not refused
 abbrev pub withoutRefused : {A : Type 0} → List (Answered A) → List (Answered A)
-withoutRefused {A} xs = leaveOut (λ (x : Answered A). isRefused (callOf x)) xs
+withoutRefused {A} xs = leaveOut (λ (x : Answered A). filterRefused (callOf x)) xs
 
--- ---- "A stretch is a longest run of accepted frame calls of one width and height with none but refused calls between them"
+-- ---- stretches: a stretch is a longest run of accepted frame calls of one width and height with none but refused calls between them
 
 -- the frame of an accepted call, with the call's answer
 pub record Shot (A : Type 0) : Type 0 where
   pub frame : Frame
   pub answer : A
 
--- "Its scored frames are all but its first"
+-- a stretch: its first frame, which has no score, and all others, which are scored
 pub record Stretch (A : Type 0) : Type 0 where
   pub first : Shot A
   pub scored : List (Shot A)
@@ -54,27 +52,30 @@ goesOn w h ((frame w′ h′ f brought a) ∷ xs) = eqb w w′ && eqb h h′
 goesOn w h ((clear brought a) ∷ xs) = false
 
 -- a frame, before the stretches of the calls after it: the first of these takes it in where its stretch goes on, and else it is one by itself
-abbrev pub joined : {A : Type 0} → (goes-on : Bool) → Shot A → List (Stretch A) → List (Stretch A)
-joined b x [] = record { first = x; scored = [] } ∷ []
-joined true x (t ∷ ts) = record { first = x; scored = t .first ∷ t .scored } ∷ ts
-joined false x (t ∷ ts) = record { first = x; scored = [] } ∷ t ∷ ts
+abbrev pub joinedStretch : {A : Type 0} → (goes-on : Bool) → Shot A → List (Stretch A) → List (Stretch A)
+joinedStretch b x [] = record { first = x; scored = [] } ∷ []
+joinedStretch true x (t ∷ ts) = record { first = x; scored = t .first ∷ t .scored } ∷ ts
+joinedStretch false x (t ∷ ts) = record { first = x; scored = [] } ∷ t ∷ ts
 
 -- The stretches of a list of calls, in order. The division is by the calls alone: it is the same whatever the answers are, and of whatever type.
 abbrev pub stretches : {A : Type 0} → List (Answered A) → List (Stretch A)
 stretches [] = []
 stretches ((refused brought a) ∷ xs) = stretches xs
-stretches ((frame w h f brought a) ∷ xs) = joined (goesOn w h xs) (record { frame = f; answer = a }) (stretches xs)
+stretches ((frame w h f brought a) ∷ xs) = joinedStretch (goesOn w h xs) (record { frame = f; answer = a }) (stretches xs)
 stretches ((clear brought a) ∷ xs) = stretches xs
 
+-- the frames of a stretch that are scored
 abbrev pub scoredFrames : {A : Type 0} → Stretch A → List Frame
 scoredFrames {A} t = map (λ (x : Shot A). x .frame) (t .scored)
 
--- ---- "The cuts are the stamps answered, in the order of the calls"
+-- ---- cuts: the stamps answered, in the order of the calls
 
+-- what the calls brought
 abbrev pub answers : {A : Type 0} → List (Answered A) → List A
 answers [] = []
 answers ((c brought a) ∷ xs) = a ∷ answers xs
 
+-- the cuts among these answers
 abbrev pub cutsIn : List MaybeTimestamp → List ℤ
 cutsIn [] = []
 cutsIn (None ∷ rs) = cutsIn rs
@@ -89,35 +90,28 @@ abbrev pub allCuts : List (Stretch MaybeTimestamp) → List ℤ
 allCuts [] = []
 allCuts (t ∷ ts) = cuts t ++ allCuts ts
 
--- ---- "a choice takes each frame at most once and in that order too"
-
+-- a choice from a list takes each element at most once, in the order of the list
 pub data Choice {A : Type 0} : List A → List A → Type 0 where
   none : Choice [] []
   skip : {x : A} {xs ys : List A} → Choice xs ys → Choice xs (x ∷ ys)
   pick : {x : A} {xs ys : List A} → Choice xs ys → Choice (x ∷ xs) (x ∷ ys)
 
--- ---- "Either keeps the distance when each stamp is at least the minimum past the one before, in whole numbers"
-
+-- each stamp is at least the minimum past the one before, in whole numbers
 abbrev pub KeepsDistance : (minimum : ℕ) → List ℤ → Type 0
 KeepsDistance d [] = Unit {0}
 KeepsDistance d (x ∷ []) = Unit {0}
 KeepsDistance d (x ∷ y ∷ ys) = ((x +ℤ pos d) ≤ℤ y) × KeepsDistance d (y ∷ ys)
-
-abbrev pub All : {A : Type 0} → (A → Type 0) → List A → Type 0
-All P [] = Unit {0}
-All P (x ∷ xs) = P x × All P xs
 
 -- stamps that never fall: none is before an earlier one
 abbrev pub NeverFall : List ℤ → Type 0
 NeverFall [] = Unit {0}
 NeverFall (x ∷ xs) = All (λ (y : ℤ). x ≤ℤ y) xs × NeverFall xs
 
+-- the stamps of frames
 abbrev pub stamps : List Frame → List ℤ
 stamps fs = map (λ (f : Frame). f .stamp .micros) fs
 
--- ---- "The first allowed stamp is a whole-number sum; the seed's subtraction stops at -2^63"
-
--- by the first scored frame, the second of the stretch: seed plus minimum
+-- the first allowed stamp, by the first scored frame: seed plus minimum, in whole numbers; the seed is never below -2^63
 abbrev pub firstAllowed : FilterOptions → Frame → ℤ
 firstAllowed o f = virtualSeed (f .stamp) o .micros +ℤ pos (o .«min_duration»)
 
@@ -146,25 +140,26 @@ pub record Suppressed (o : FilterOptions) (scored : List Frame) (cs : List ℤ) 
 pub record Merged (o : FilterOptions) (scored : List Frame) (cs : List ℤ) : Type 0 where
   pub distance : NeverFall (stamps scored) → KeepsDistance (o .«min_duration») cs
 
+-- the rule of the mode, of the scored frames of a stretch and its cuts
 abbrev pub InMode : FilterMode → FilterOptions → (scored : List Frame) (cs : List ℤ) → Type 0
 InMode Suppress o fs cs = Suppressed o fs cs
 InMode Merge o fs cs = Merged o fs cs
 
 -- a stretch keeps the rule of the mode
-abbrev pub Keeps : FilterOptions → Stretch MaybeTimestamp → Type 0
-Keeps o t = InMode (o .«filter_mode») o (scoredFrames t) (cuts t)
+abbrev pub StretchKeeps : FilterOptions → Stretch MaybeTimestamp → Type 0
+StretchKeeps o t = InMode (o .«filter_mode») o (scoredFrames t) (cuts t)
 
--- Demand 3, of calls and what they brought
-pub record Holds (o : FilterOptions) (xs : List (Answered MaybeTimestamp)) : Type 0 where
-  -- "The first frame of a stretch .. gives no cut"
+-- the claim, of calls and what they brought
+pub record StretchesHold (o : FilterOptions) (xs : List (Answered MaybeTimestamp)) : Type 0 where
+  -- the first frame of a stretch gives no cut
   pub first-frames : All (λ (t : Stretch MaybeTimestamp). t .first .answer ≡ None) (stretches xs)
   -- each stretch keeps the rule of the mode
-  pub each-stretch : All (Keeps o) (stretches xs)
+  pub each-stretch : All (StretchKeeps o) (stretches xs)
   -- every cut is a stretch's
   pub no-others : cutsIn (answers xs) ≡ allCuts (stretches xs)
 
--- Demand 3, of a list of calls from a fresh state
-pub record Claim (o : FilterOptions) (calls : List Call) : Type 0 where
-  pub holds : Holds o (run o calls)
+-- the claim, of a list of calls from a fresh state
+pub record FilterClaim (o : FilterOptions) (calls : List FilterCall) : Type 0 where
+  pub holds : StretchesHold o (filterRun o calls)
   -- without the refused calls each other call brings what it brought
-  pub left-out : run o (leaveOut isRefused calls) ≡ withoutRefused (run o calls)
+  pub left-out : filterRun o (leaveOut filterRefused calls) ≡ withoutRefused (filterRun o calls)

@@ -1,4 +1,4 @@
--- The filter rule of document 01, `src/content.rs`: Suppress, and Merge by the branches of `filter_merge`. A scored frame comes as its stamp
+-- The filter rule: Suppress, and Merge by the branches of `filter_merge`. A scored frame comes as its stamp
 -- and whether it is above, that is at or over its threshold.
 use Prim.Native.Nat.{ℕ}
 use mathlib.Core.Bool.{Bool, false, cond, not, _&&_, _||_}
@@ -34,6 +34,7 @@ seeded o (At t) ts = t
 unfoldable pub minLengthMet : FilterOptions → Timestamp → Timestamp → Bool
 minLengthMet o last ts = leZ (last .micros +ℤ pos (o .«min_duration»)) (ts .micros)
 
+-- a cut at this stamp, or none
 abbrev pub cutIf : Bool → Timestamp → MaybeTimestamp
 cutIf b ts = cond b (At ts) None
 
@@ -51,9 +52,11 @@ suppressed f last ts above met = stepTo f (cond (above && met) ts last) (cutIf (
 
 -- ---- Merge. `last_above` advances before the branches when above; `met` was found before that.
 
+-- the last stamp above, after this frame
 abbrev pub advanced : (last ts : Timestamp) (above : Bool) → Timestamp
 advanced last ts above = cond above ts last
 
+-- a duration in microseconds, 0 where the later stamp is the earlier one
 abbrev pub microsOrZero : Since → ℕ
 microsOrZero Earlier = 0
 microsOrZero (Micros n) = n
@@ -81,6 +84,7 @@ mergeFree f last ts above met =
       cut = cutIf (above && met) ts;
     }
 
+-- Merge, whether a merge is triggered or not
 unfoldable pub filterMerge : FilterOptions → Filter → (last ts : Timestamp) (above met : Bool) → FilterStep
 filterMerge o f last ts above met =
     cond (f .«merge_triggered»)
@@ -89,10 +93,12 @@ filterMerge o f last ts above met =
 
 -- ---- a scored frame
 
+-- by the mode
 abbrev pub byMode : FilterMode → FilterOptions → Filter → (last ts : Timestamp) (above met : Bool) → FilterStep
 byMode Suppress o f last ts above met = suppressed f last ts above met
 byMode Merge o f last ts above met = filterMerge o f last ts above met
 
+-- a scored frame: the distance is counted from the last stamp that counts, or from the seed
 unfoldable pub flashFilter : FilterOptions → Filter → Timestamp → Bool → FilterStep
 flashFilter o f ts above =
     let last : Timestamp = seeded o (f .«last_above») ts in

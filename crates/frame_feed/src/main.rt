@@ -5,10 +5,9 @@ use libc::STDOUT_FILENO;
 ghost use mathlib.Core.Path.{_≡_};
 ghost use lib.ListN.{length};
 ghost use Rattle.frame.specs.Checks.{lumaRefusal, bgrRefusal, hsvRefusal};
-ghost use Rattle.content_calls.specs.Call.{called, luma, bgr, hsv, memory};
-ghost use Rattle.content_calls.specs.Called.{Called};
-ghost use Rattle.adaptive_calls.specs.Call.{called as adaptiveCalled};
-ghost use Rattle.adaptive_calls.specs.Called.{Called as AdaptiveCalled};
+ghost use Rattle.frame_call.specs.Call.{luma, bgr, hsv, memory, Called};
+ghost use Rattle.content.specs.Step.{called};
+ghost use Rattle.adaptive.specs.Step.{called as adaptiveCalled};
 use frame_records::HsvFrame;
 use frame_records::LumaFrame;
 use frame_records::RgbFrame;
@@ -40,7 +39,7 @@ fn content_luma(
     scratch: &mut [u8],
     magnitudes: &mut [i32],
 ) -> ContentFed
-    ensures { λ r. ⌜ (r .number ≡ lumaRefusal (length (now (plane .entry))) width height stride) × Called (called d (luma (now (plane .entry)) width height stride ts (memory (now (store .entry)) (now (scratch .entry)) (now (magnitudes .entry))))) (r .answer) (memory (now (store .entry)) (now (scratch .entry)) (now (magnitudes .entry))) (memory (now (store .exit)) (now (scratch .exit)) (now (magnitudes .exit))) ⌝ }
+    ensures { λ r. ⌜ (r .number ≡ lumaRefusal (length (now (plane .entry))) width height stride) × Called (called d (luma (now (plane .entry)) width height stride ts (memory (now (store .entry)) (now (scratch .entry)) (now (magnitudes .entry))))) (r .answer) (r .answer .number) (memory (now (store .entry)) (now (scratch .entry)) (now (magnitudes .entry))) (memory (now (store .exit)) (now (scratch .exit)) (now (magnitudes .exit))) ⌝ }
 {
     let made = LumaFrame::try_new(plane, width, height, stride, ts);
     ContentFed {
@@ -61,7 +60,7 @@ fn content_bgr(
     scratch: &mut [u8],
     magnitudes: &mut [i32],
 ) -> ContentFed
-    ensures { λ r. ⌜ (r .number ≡ bgrRefusal (length (now (pixels .entry))) width height stride) × Called (called d (bgr (now (pixels .entry)) width height stride ts (memory (now (store .entry)) (now (scratch .entry)) (now (magnitudes .entry))))) (r .answer) (memory (now (store .entry)) (now (scratch .entry)) (now (magnitudes .entry))) (memory (now (store .exit)) (now (scratch .exit)) (now (magnitudes .exit))) ⌝ }
+    ensures { λ r. ⌜ (r .number ≡ bgrRefusal (length (now (pixels .entry))) width height stride) × Called (called d (bgr (now (pixels .entry)) width height stride ts (memory (now (store .entry)) (now (scratch .entry)) (now (magnitudes .entry))))) (r .answer) (r .answer .number) (memory (now (store .entry)) (now (scratch .entry)) (now (magnitudes .entry))) (memory (now (store .exit)) (now (scratch .exit)) (now (magnitudes .exit))) ⌝ }
 {
     let made = RgbFrame::try_new(pixels, width, height, stride, ts);
     ContentFed {
@@ -84,7 +83,7 @@ fn content_hsv<'a>(
     scratch: &mut [u8],
     magnitudes: &mut [i32],
 ) -> ContentFed
-    ensures { λ r. ⌜ (r .number ≡ hsvRefusal (length (now (hue .entry))) (length (now (saturation .entry))) (length (now (value .entry))) width height stride) × Called (called d (hsv (now (hue .entry)) (now (saturation .entry)) (now (value .entry)) width height stride ts (memory (now (store .entry)) (now (scratch .entry)) (now (magnitudes .entry))))) (r .answer) (memory (now (store .entry)) (now (scratch .entry)) (now (magnitudes .entry))) (memory (now (store .exit)) (now (scratch .exit)) (now (magnitudes .exit))) ⌝ }
+    ensures { λ r. ⌜ (r .number ≡ hsvRefusal (length (now (hue .entry))) (length (now (saturation .entry))) (length (now (value .entry))) width height stride) × Called (called d (hsv (now (hue .entry)) (now (saturation .entry)) (now (value .entry)) width height stride ts (memory (now (store .entry)) (now (scratch .entry)) (now (magnitudes .entry))))) (r .answer) (r .answer .number) (memory (now (store .entry)) (now (scratch .entry)) (now (magnitudes .entry))) (memory (now (store .exit)) (now (scratch .exit)) (now (magnitudes .exit))) ⌝ }
 {
     let made = HsvFrame::try_new(hue, saturation, value, width, height, stride, ts);
     ContentFed {
@@ -105,7 +104,7 @@ fn adaptive_luma(
     scratch: &mut [u8],
     magnitudes: &mut [i32],
 ) -> AdaptiveFed
-    ensures { λ r. ⌜ (r .number ≡ lumaRefusal (length (now (plane .entry))) width height stride) × AdaptiveCalled (adaptiveCalled d (luma (now (plane .entry)) width height stride ts (memory (now (store .entry)) (now (scratch .entry)) (now (magnitudes .entry))))) (r .answer) (memory (now (store .entry)) (now (scratch .entry)) (now (magnitudes .entry))) (memory (now (store .exit)) (now (scratch .exit)) (now (magnitudes .exit))) ⌝ }
+    ensures { λ r. ⌜ (r .number ≡ lumaRefusal (length (now (plane .entry))) width height stride) × Called (adaptiveCalled d (luma (now (plane .entry)) width height stride ts (memory (now (store .entry)) (now (scratch .entry)) (now (magnitudes .entry))))) (r .answer) (r .answer .number) (memory (now (store .entry)) (now (scratch .entry)) (now (magnitudes .entry))) (memory (now (store .exit)) (now (scratch .exit)) (now (magnitudes .exit))) ⌝ }
 {
     let made = LumaFrame::try_new(plane, width, height, stride, ts);
     AdaptiveFed {
@@ -126,7 +125,7 @@ fn adaptive_bgr(
     scratch: &mut [u8],
     magnitudes: &mut [i32],
 ) -> AdaptiveFed
-    ensures { λ r. ⌜ (r .number ≡ bgrRefusal (length (now (pixels .entry))) width height stride) × AdaptiveCalled (adaptiveCalled d (bgr (now (pixels .entry)) width height stride ts (memory (now (store .entry)) (now (scratch .entry)) (now (magnitudes .entry))))) (r .answer) (memory (now (store .entry)) (now (scratch .entry)) (now (magnitudes .entry))) (memory (now (store .exit)) (now (scratch .exit)) (now (magnitudes .exit))) ⌝ }
+    ensures { λ r. ⌜ (r .number ≡ bgrRefusal (length (now (pixels .entry))) width height stride) × Called (adaptiveCalled d (bgr (now (pixels .entry)) width height stride ts (memory (now (store .entry)) (now (scratch .entry)) (now (magnitudes .entry))))) (r .answer) (r .answer .number) (memory (now (store .entry)) (now (scratch .entry)) (now (magnitudes .entry))) (memory (now (store .exit)) (now (scratch .exit)) (now (magnitudes .exit))) ⌝ }
 {
     let made = RgbFrame::try_new(pixels, width, height, stride, ts);
     AdaptiveFed {
@@ -149,7 +148,7 @@ fn adaptive_hsv<'a>(
     scratch: &mut [u8],
     magnitudes: &mut [i32],
 ) -> AdaptiveFed
-    ensures { λ r. ⌜ (r .number ≡ hsvRefusal (length (now (hue .entry))) (length (now (saturation .entry))) (length (now (value .entry))) width height stride) × AdaptiveCalled (adaptiveCalled d (hsv (now (hue .entry)) (now (saturation .entry)) (now (value .entry)) width height stride ts (memory (now (store .entry)) (now (scratch .entry)) (now (magnitudes .entry))))) (r .answer) (memory (now (store .entry)) (now (scratch .entry)) (now (magnitudes .entry))) (memory (now (store .exit)) (now (scratch .exit)) (now (magnitudes .exit))) ⌝ }
+    ensures { λ r. ⌜ (r .number ≡ hsvRefusal (length (now (hue .entry))) (length (now (saturation .entry))) (length (now (value .entry))) width height stride) × Called (adaptiveCalled d (hsv (now (hue .entry)) (now (saturation .entry)) (now (value .entry)) width height stride ts (memory (now (store .entry)) (now (scratch .entry)) (now (magnitudes .entry))))) (r .answer) (r .answer .number) (memory (now (store .entry)) (now (scratch .entry)) (now (magnitudes .entry))) (memory (now (store .exit)) (now (scratch .exit)) (now (magnitudes .exit))) ⌝ }
 {
     let made = HsvFrame::try_new(hue, saturation, value, width, height, stride, ts);
     AdaptiveFed {

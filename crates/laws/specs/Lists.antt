@@ -1,4 +1,5 @@
--- Lists given by index, and planes by column and row.
+-- Lists given by index, planes by column and row, and what is said of all elements.
+use mathlib.Core.Bool.{Bool, cond}
 use mathlib.Core.List.{List, [], _∷_}
 use Prim.Native.Nat.{ℕ, zero, suc, _+_, _-_, _*_, _/_, _%_, max}
 
@@ -24,3 +25,13 @@ maxFrom g lo (suc n) = max (maxFrom g lo n) (g (lo + n))
 -- the largest g j with lo ≤ j and j < hi; 0 where there is no such j
 unfoldable pub maxIn : ℕ → ℕ → (ℕ → ℕ) → ℕ
 maxIn lo hi g = maxFrom g lo (hi - lo)
+
+-- P holds of every element
+abbrev pub All : {A : Type 0} → (A → Type 0) → List A → Type 0
+All P [] = Unit {0}
+All P (x ∷ xs) = P x × All P xs
+
+-- the list without the elements of which `out` holds
+abbrev pub leaveOut : {A : Type 0} → (A → Bool) → List A → List A
+leaveOut out [] = []
+leaveOut out (x ∷ xs) = cond (out x) (leaveOut out xs) (x ∷ leaveOut out xs)

@@ -3,23 +3,22 @@ use mathlib.Core.Bool.{Bool, cond}
 use mathlib.Core.List.{List, [], _∷_}
 use Prim.Native.Nat.{ℕ, zero, suc, _+_, _*_, _%_}
 use lib.Dec.{eqb}
-use lib.IntN.{ℤ, pos, negsuc}
-use lib.ListN.{getD, length}
+use lib.IntN.{pos, negsuc}
+use lib.ListN.{getD, replicate}
 use Rattle.laws.specs.Floats.{float}
 use Rattle.timestamp.specs.declared.Timestamp.{Timestamp}
-use Rattle.frame.specs.Checks.{lumaRefusal}
 use Rattle.score.specs.declared.Components.{Components}
 use Rattle.score.specs.declared.KernelSize.the-variants.{Auto}
 use Rattle.score.specs.Scores.{defaultWeights, lumaOnlyWeights}
 use Rattle.filter.specs.declared.FilterMode.{FilterMode}
 use Rattle.filter.specs.declared.FilterMode.the-variants.{Suppress, Merge}
-use Rattle.stream.specs.Stream.{memoryRefusal}
-use Rattle.scoring.specs.Planes.{lumaFrame}
 use Rattle.content.specs.declared.Options.{Options}
 use Rattle.content.specs.declared.Detector.{Detector}
+use Rattle.content.specs.declared.Answer.{Answer}
 use Rattle.content.specs.Options.{options}
 use Rattle.content.specs.State.{clearedAnswer, settled}
-use Rattle.content_calls.specs.Call.{Outcome, callRefusal, frameCall}
+use Rattle.frame_call.specs.Call.{Outcome, luma, memory}
+use Rattle.content.specs.Step.{called}
 use Rattle.replay.specs.declared.Digest.{Digest}
 use Rattle.replay.specs.Digest.{empty, fed, leastFirst}
 use Rattle.replay.specs.Generator.{nextOf, byteOf}
@@ -48,14 +47,12 @@ abbrev pub strideOf : ℕ → ℕ
 strideOf action = cond (eqb action 1) 0 1
 
 -- `clear`, or a luma frame of 1 × 1, with this store and so many places of scratch and magnitudes
-unfoldable pub answeredOf : Detector → ℕ → ℕ → Timestamp → List ℕ → ℕ → ℕ → Outcome
-answeredOf d action luma ts store scratch magnitudes =
-    let stride = strideOf action in
-    let number = callRefusal d (lumaRefusal 1 1 1 stride) (memoryRefusal (length store) scratch magnitudes 1 1) in
+unfoldable pub answeredOf : Detector → ℕ → ℕ → Timestamp → List ℕ → ℕ → ℕ → Outcome Answer
+answeredOf d action value ts store scratch magnitudes =
     cond
     (eqb action 0)
     (record { answer = clearedAnswer d; store = store })
-    (frameCall d number 1 1 (lumaFrame (luma ∷ []) 1 1 stride) ts store)
+    (called d (luma (value ∷ []) 1 1 (strideOf action) ts (memory store (replicate scratch 0) (replicate magnitudes (pos 0)))))
 
 -- a stamp by its place
 abbrev pub stampOf : ℕ → Timestamp
@@ -89,7 +86,7 @@ abbrev pub movedBy : ℕ → Bool → ℕ
 movedBy b wide = cond wide (b % 16) (b % 4)
 
 -- one call: the run and the store after it, the memory being of 9 and 1 places
-unfoldable pub outcomeOf : Bool → Run → List ℕ → Outcome
+unfoldable pub outcomeOf : Bool → Run → List ℕ → Outcome Answer
 outcomeOf wide run store =
     let x1 = nextOf (run .x) in
     let x2 = nextOf x1 in
@@ -103,7 +100,7 @@ outcomeOf wide run store =
     9
     1
 
-unfoldable pub runAfter : Bool → Run → Outcome → Run
+unfoldable pub runAfter : Bool → Run → Outcome Answer → Run
 runAfter wide run o =
     let x2 = nextOf (nextOf (run .x)) in
     record {

@@ -11,7 +11,7 @@ use Rattle.timestamp.specs.declared.MaybeTimestamp.{MaybeTimestamp}
 use Rattle.timestamp.specs.declared.MaybeTimestamp.the-variants.{None, At}
 use Rattle.filter.specs.declared.FilterMode.{FilterMode}
 use Rattle.filter.specs.declared.FilterMode.the-variants.{Suppress, Merge}
-use Rattle.filter.specs.Calls.{Call, frame, run}
+use Rattle.filter.specs.Calls.{FilterCall, frame, filterRun}
 use Rattle.filter.specs.Claim.{answers}
 
 -- (H, S, V) of (B, G, R)
@@ -27,11 +27,11 @@ abbrev pub kernels : List ℕ
 kernels = autoKernelSize 287 289 ∷ autoKernelSize 288 288 ∷ autoKernelSize 1920 1080 ∷ []
 
 -- a frame with that stamp and score, at threshold 27
-abbrev pub scored : ℕ → ℕ → Call
+abbrev pub scored : ℕ → ℕ → FilterCall
 scored stamp score = frame 1 1 (record { stamp = record { micros = pos stamp }; above = leb 27 score })
 
 -- a first frame, which has no score, then the five scored frames of the sample
-abbrev pub strip : List Call
+abbrev pub strip : List FilterCall
 strip = scored 0 0 ∷ scored 400000 30 ∷ scored 900000 30 ∷ scored 1400000 30 ∷ scored 2400000 30 ∷ scored 3400000 5 ∷ []
 
 -- for each answer that is a cut: the number of its call, from 0, and the cut
@@ -42,7 +42,7 @@ cutsFrom n (At t ∷ rs) = pos n ∷ t .micros ∷ cutsFrom (suc n) rs
 
 -- the cuts of these frames in this mode, with a minimum of 1,000,000 and `initial_cut` on
 abbrev pub filtered : FilterMode → List ℤ
-filtered mode = cutsFrom 0 (answers (run (record { «filter_mode» = mode; «min_duration» = 1000000; «initial_cut» = true }) strip))
+filtered mode = cutsFrom 0 (answers (filterRun (record { «filter_mode» = mode; «min_duration» = 1000000; «initial_cut» = true }) strip))
 
 -- a row of natural numbers
 abbrev pub row : List ℕ → List ℤ

@@ -1,5 +1,5 @@
 -- The sums and the store of an accepted frame, by what each step leaves.
-use mathlib.Core.Path.{_≡_, refl, ap, _∙_}
+use mathlib.Core.Path.{_≡_, ap, _∙_}
 use mathlib.Core.Bool.{Bool, true, false, cond}
 use mathlib.Core.List.{List, _++_}
 use Prim.Native.Nat.{ℕ, _+_, _*_, _≤_}
@@ -7,7 +7,7 @@ use lib.ListN.{length, take}
 use Rattle.arch_planes.specs.Difference.{sumAbsDiff}
 use Rattle.canny.specs.Edges.{edgePlane}
 use Rattle.stream.specs.declared.Sums.{Sums}
-use Rattle.stream.specs.Sums.{noSums}
+use Rattle.stream.specs.Stream.{noSums}
 use Rattle.scoring.specs.Planes.{planesIn, lumaPart, edgePart, restPart}
 use Rattle.scoring.specs.Sums.{planeSums, frameSums, storeAfter}
 use Rattle.scoring.proofs.Memory.{kept, kept-luma, kept-edges, kept-is, edged-is}

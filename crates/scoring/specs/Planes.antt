@@ -1,4 +1,4 @@
--- Document 01: a frame's hue, saturation and luma planes, packed, and those of the store.
+-- A frame's hue, saturation and luma planes, packed, and those of the store.
 use mathlib.Core.List.{List, _++_}
 use Prim.Native.Nat.{ℕ, _+_, _*_}
 use lib.ListN.{take, drop}
@@ -12,22 +12,20 @@ pub record Planes : Type 0 where
   pub saturation : List ℕ
   pub luma : List ℕ
 
--- "A luma frame has hue and saturation 0."
+-- n bytes 0
 abbrev pub zeros : ℕ → List ℕ
 zeros n = tabulate n (λ _. 0)
 
+-- a luma frame: hue and saturation are 0
 unfoldable pub lumaFrame : List ℕ → ℕ → ℕ → ℕ → Planes
 lumaFrame plane w h stride = record { hue = zeros (w * h); saturation = zeros (w * h); luma = packed plane w h stride }
 
 -- a BGR frame: its luma is HSV's value
 unfoldable pub bgrFrame : List ℕ → ℕ → ℕ → ℕ → Planes
-bgrFrame pixels w h stride = record {
-  hue = planeOf hue pixels w h stride;
-  saturation = planeOf saturation pixels w h stride;
-  luma = planeOf value pixels w h stride;
-}
+bgrFrame pixels w h stride =
+    record { hue = planeOf hue pixels w h stride; saturation = planeOf saturation pixels w h stride; luma = planeOf value pixels w h stride }
 
--- an HSV frame
+-- an HSV frame: its luma is the value plane
 unfoldable pub hsvFrame : List ℕ → List ℕ → List ℕ → ℕ → ℕ → ℕ → Planes
 hsvFrame h s v width height stride = record { hue = packed h width height stride; saturation = packed s width height stride; luma = packed v width height stride }
 
@@ -35,8 +33,8 @@ hsvFrame h s v width height stride = record { hue = packed h width height stride
 abbrev pub joined : Planes → List ℕ
 joined p = p .hue ++ (p .saturation ++ p .luma)
 
--- "The store's first 4n bytes are the last frame's hue, saturation, luma and edge planes, n bytes each." The scratch has the present
--- frame's at the same places. Bytes from 4n on are the rest.
+-- The store's first 4n bytes are the last frame's hue, saturation, luma and edge planes, n bytes each; the scratch has the present frame's
+-- at the same places. Bytes from 4n on are the rest.
 abbrev pub huePart : ℕ → List ℕ → List ℕ
 huePart n s = take n s
 

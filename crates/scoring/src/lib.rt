@@ -7,7 +7,7 @@ ghost use lib.ListN.{length, take, drop};
 ghost use Rattle.scoring.specs.Planes.{zeros, joined, lumaFrame, bgrFrame, hsvFrame, planesIn, lumaPart, edgePart, restPart};
 ghost use Rattle.scoring.specs.Sums.{planeSums, kernelOf, frameSums, storeAfter};
 ghost use Rattle.arch_planes.specs.Difference.{sumAbsDiff};
-ghost use Rattle.stream.specs.Sums.{noSums};
+ghost use Rattle.stream.specs.Stream.{noSums};
 ghost use Rattle.canny.specs.Edges.{edgePlane};
 use score::KernelSize;
 use stream::Sums;

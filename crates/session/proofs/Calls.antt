@@ -9,14 +9,13 @@ use lib.Dec.{eqb, leb}
 use lib.IntN.{ℤ, pos}
 use lib.ListN.{length, take, replicate, length-replicate}
 use Rattle.timestamp.specs.declared.Timestamp.{Timestamp}
-use Rattle.frame.specs.Checks.{lumaRefusal}
-use Rattle.stream.specs.Stream.{memoryRefusal}
-use Rattle.scoring.specs.Planes.{lumaFrame}
 use Rattle.content.specs.declared.Detector.{Detector}
 use Rattle.content.specs.declared.Options.{Options}
-use Rattle.content.specs.Options.{defaults, optionsRefusal}
-use Rattle.content.specs.State.{refusedAnswer, settled, fresh}
-use Rattle.content_calls.specs.Call.{Outcome, called, frameCall, callRefusal, luma, memory}
+use Rattle.content.specs.Options.{defaults, pictureOptions, optionsRefusal}
+use Rattle.content.specs.State.{badState, refusedAnswer, clearedAnswer, settled, fresh}
+use Rattle.frame_call.specs.Call.{luma, memory}
+use Rattle.frame_call.proofs.Returned.{lent-same}
+use Rattle.content.specs.Step.{stepped, called}
 use Rattle.decimal.specs.Reading.{isUpTo, isStamp, number}
 use Rattle.frame_line.specs.declared.FrameLine.{FrameLine}
 use Rattle.frame_line.specs.Line.{isFrameOf, isFrame, fields, frameOf, lineOf, lumaOf}
@@ -24,12 +23,12 @@ use Rattle.session.specs.declared.Session.{Session}
 use Rattle.session.specs.Output.{lineCall}
 use Rattle.session.specs.Sessions.{placeOf, frameCallOf}
 
--- of the scratch and the magnitudes a call asks for the lengths alone
-pub lent-same : (d : Detector) (plane : List ℕ) (w h stride : ℕ) (ts : Timestamp) (store scratch : List ℕ) (magnitudes : List ℤ) → length scratch ≡ 9216 → length magnitudes ≡ 1024
+-- a call, whatever scratch and magnitudes of these lengths it is lent
+pub lent : (d : Detector) (plane : List ℕ) (w h stride : ℕ) (ts : Timestamp) (store scratch : List ℕ) (magnitudes : List ℤ) → length scratch ≡ 9216 → length magnitudes ≡ 1024
     → called d (luma plane w h stride ts (memory store scratch magnitudes)) ≡ called d (luma plane w h stride ts (memory store (replicate 9216 0) (replicate 1024 (pos 0))))
-lent-same d plane w h stride ts store scratch magnitudes p q =
-    let by : ℕ → ℕ → Outcome = λ a b. frameCall d (callRefusal d (lumaRefusal (length plane) w h stride) (memoryRefusal (length store) a b w h)) w h (lumaFrame plane w h stride) ts store in
-    ap (λ (a : ℕ). by a (length magnitudes)) (p ∙ sym (length-replicate {A = ℕ} 9216 0)) ∙ ap (λ (b : ℕ). by (length (replicate {A = ℕ} 9216 0)) b) (q ∙ sym (length-replicate 1024 (pos 0)))
+lent d plane w h stride ts store scratch magnitudes p q =
+    lent-same (d .stream) (pictureOptions (d .options)) (badState d) (stepped d) (refusedAnswer d) (clearedAnswer d) plane w h stride ts store scratch (replicate 9216 0) magnitudes (replicate 1024 (pos 0))
+    (p ∙ sym (length-replicate {A = ℕ} 9216 0)) (q ∙ sym (length-replicate 1024 (pos 0)))
 
 and-left : (a b : Bool) → a && b ≡ true → a ≡ true
 and-left true b h = refl

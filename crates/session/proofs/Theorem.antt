@@ -8,7 +8,7 @@ use native.Mathlib.Omega.{arith}
 use lib.ListN.{length, take, length-take}
 use borrow.Author.Tests.{ne-eqb}
 use Rattle.content.specs.declared.Answer.{Answer}
-use Rattle.content_calls.specs.Call.{Outcome}
+use Rattle.frame_call.specs.Call.{Outcome}
 use Rattle.decimal.specs.Parts.{parted, withFirst}
 use Rattle.session.specs.Output.{Place, start, lineCall, after, lineText, ended, lines, answers, header, output}
 use Rattle.session.specs.Feeding.{State, next, textOf, fed, fedText, lastText, chunksText, fresh}
@@ -67,7 +67,7 @@ at-end p [] = refl
 at-end p (b ∷ line) =
     rw (append-nil line)
     (last-line p (take 8193 (b ∷ line)) (lineCall p (b ∷ line) .answer) (λ e. omega (arith, e, length-take 8193 (b ∷ line)))
-    (ap (λ (o : Outcome). o .answer) (call-held p (b ∷ line))))
+    (ap (λ (o : Outcome Answer). o .answer) (call-held p (b ∷ line))))
 
 -- a byte: a line feed, or another
 step : (p : Place) (line : List ℕ) (b : ℕ) (bs : List ℕ) (t : Bool) → eqb b 10 ≡ t

@@ -11,7 +11,8 @@ use Rattle.content.specs.declared.Detector.{Detector}
 use Rattle.content.specs.declared.Answer.{Answer}
 use Rattle.content.specs.Options.{defaults}
 use Rattle.content.specs.State.{fresh, refusedAnswer}
-use Rattle.content_calls.specs.Call.{Outcome, called, luma, memory}
+use Rattle.frame_call.specs.Call.{Outcome, luma, memory}
+use Rattle.content.specs.Step.{called}
 use Rattle.decimal.specs.Parts.{parted}
 use Rattle.decimal.specs.Writing.{decimal, stampText}
 use Rattle.frame_line.specs.Line.{isFrame, fields, lineOf, lumaOf}
@@ -39,7 +40,7 @@ start = record { detector = fresh defaults; store = replicate 4096 0; number = 0
 
 -- What a line brings: the luma call of its frame, rows packed, or 16. 9,216 bytes of scratch and 1,024 magnitudes are enough for
 -- every frame of at most 1,024 pixels whose sides the call takes.
-unfoldable pub lineCall : Place → List ℕ → Outcome
+unfoldable pub lineCall : Place → List ℕ → Outcome Answer
 lineCall p line =
     cond
     (isFrame line)

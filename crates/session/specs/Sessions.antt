@@ -5,9 +5,11 @@ use Prim.Native.Nat.{ℕ, _*_}
 use lib.Dec.{eqb, ltb}
 use lib.IntN.{pos}
 use lib.ListN.{length, take, replicate}
+use Rattle.content.specs.declared.Answer.{Answer}
 use Rattle.content.specs.Options.{defaults}
 use Rattle.content.specs.State.{fresh}
-use Rattle.content_calls.specs.Call.{Outcome, called, luma, memory}
+use Rattle.frame_call.specs.Call.{Outcome, luma, memory}
+use Rattle.content.specs.Step.{called}
 use Rattle.frame_line.specs.declared.FrameLine.{FrameLine}
 use Rattle.session.specs.declared.Session.{Session}
 use Rattle.session.specs.Output.{Place, after}
@@ -29,7 +31,7 @@ abbrev pub heldLength : ℕ → ℕ
 heldLength n = cond (ltb n 8193) n 8193
 
 -- the luma call of a frame line, its values the first of `values`
-unfoldable pub frameCallOf : Session → FrameLine → (values store : List ℕ) → Outcome
+unfoldable pub frameCallOf : Session → FrameLine → (values store : List ℕ) → Outcome Answer
 frameCallOf s f values store =
     called (s .detector) (luma (take (f .width * f .height) values) (f .width) (f .height) (f .width) (f .stamp) (memory store (replicate 9216 0) (replicate 1024 (pos 0))))
 

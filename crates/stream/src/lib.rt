@@ -1,8 +1,7 @@
 // What both detectors keep of the stream, the sums of a frame's differences, and refusals 12 to 14. Values go in and come out.
 ghost use mathlib.Core.Path.{_≡_};
 ghost use Prim.Native.Nat.{_≤_, max};
-ghost use Rattle.stream.specs.Sums.{componentsOf};
-ghost use Rattle.stream.specs.Stream.{freshStream, isScored, nextStream, memoryRefusal};
+ghost use Rattle.stream.specs.Stream.{componentsOf, freshStream, isScored, nextStream, componentsShown, memoryRefusal};
 use score::Components;
 use score::MaybeComponents;
 use score::MaybeScore;
@@ -78,6 +77,21 @@ pub fn next_stream(s: Stream, width: u32, height: u32, weights: Components, sums
         last_components: MaybeComponents::None,
         width: width,
         height: height,
+    }
+}
+
+// The components that an answer shows: four times 0.0 where there are none.
+pub fn components_shown(c: MaybeComponents) -> Components
+    ensures { λ r. ⌜ r ≡ componentsShown c ⌝ }
+{
+    match c {
+        MaybeComponents::None => Components {
+            delta_hue: 0.0,
+            delta_sat: 0.0,
+            delta_lum: 0.0,
+            delta_edges: 0.0,
+        },
+        MaybeComponents::Some(shown) => shown,
     }
 }
 

@@ -10,14 +10,15 @@ use Rattle.timestamp.specs.declared.Timestamp.{Timestamp}
 use Rattle.timestamp.specs.declared.MaybeTimestamp.{MaybeTimestamp}
 use Rattle.timestamp.specs.declared.MaybeTimestamp.the-variants.{None, At}
 use Rattle.filter.specs.Flash.{seeded, minLengthMet, cutIf}
-use Rattle.filter.specs.Claim.{All, KeepsDistance, cutsIn}
+use Rattle.laws.specs.Lists.{All}
+use Rattle.filter.specs.Claim.{KeepsDistance, cutsIn}
 use Rattle.filter.proofs.Frames.{Chain, chain-keeps, chain-distance, and-true}
 use Rattle.window.specs.declared.WindowOptions.{WindowOptions}
 use Rattle.window.specs.declared.Window.{Window}
 use Rattle.window.specs.declared.WindowStep.{WindowStep}
 use Rattle.window.specs.Window.{fresh, unchanged, others, canHold, isFull, pushed, targetStamp, targetScore, average, ratioOf, thresholdMet, suppressing, judged, checked, pushAndCheck}
-use Rattle.window.specs.Calls.{Call, refused, unscored, scored, clear, runFrom, run}
-use Rattle.window.specs.Claim.{joined, fromClearToClear, Keeps, Holds}
+use Rattle.window.specs.Calls.{WindowCall, refused, unscored, scored, clear, windowRunFrom, windowRun}
+use Rattle.window.specs.Claim.{joinedPart, fromClearToClear, PartKeeps, PartsHold}
 
 module _ (o : WindowOptions) where
   abbrev d : ℕ
@@ -73,25 +74,25 @@ module _ (o : WindowOptions) where
 
   abbrev From : MaybeTimestamp → List (List MaybeTimestamp) → Type 0
   From last [] = Unit {0}
-  From last (p ∷ ps) = Counted last (cutsIn p) × All (Keeps o) ps
+  From last (p ∷ ps) = Counted last (cutsIn p) × All (PartKeeps o) ps
 
-  from-joined : (last : MaybeTimestamp) (r : WindowStep) (ps : List (List MaybeTimestamp)) → Goes last r → From (r .window .«last_cut_ts») ps → From last (joined (r .cut) ps)
+  from-joined : (last : MaybeTimestamp) (r : WindowStep) (ps : List (List MaybeTimestamp)) → Goes last r → From (r .window .«last_cut_ts») ps → From last (joinedPart (r .cut) ps)
   from-joined last r [] g k = (g [] (counted-none (r .window .«last_cut_ts»)), tt)
   from-joined last r (p ∷ ps) g k = (g p (k .0), k .1)
 
-  from-fresh : (ps : List (List MaybeTimestamp)) → From (fresh .«last_cut_ts») ps → All (Keeps o) ps
+  from-fresh : (ps : List (List MaybeTimestamp)) → From (fresh .«last_cut_ts») ps → All (PartKeeps o) ps
   unfolding fresh
   from-fresh [] k = tt
   from-fresh (p ∷ ps) k = k
 
-  runs : (s : Window) (calls : List Call) → From (s .«last_cut_ts») (fromClearToClear (runFrom o s calls))
+  runs : (s : Window) (calls : List WindowCall) → From (s .«last_cut_ts») (fromClearToClear (windowRunFrom o s calls))
   runs s [] = (counted-none (s .«last_cut_ts»), tt)
-  runs s (refused ∷ cs) = from-joined _ (unchanged s) (fromClearToClear (runFrom o s cs)) (λ rest k. k) (runs s cs)
-  runs s (unscored ∷ cs) = from-joined _ (unchanged s) (fromClearToClear (runFrom o s cs)) (λ rest k. k) (runs s cs)
+  runs s (refused ∷ cs) = from-joined _ (unchanged s) (fromClearToClear (windowRunFrom o s cs)) (λ rest k. k) (runs s cs)
+  runs s (unscored ∷ cs) = from-joined _ (unchanged s) (fromClearToClear (windowRunFrom o s cs)) (λ rest k. k) (runs s cs)
   runs s (scored ts x ∷ cs) =
       let r = pushAndCheck o s ts x in
-      from-joined _ r (fromClearToClear (runFrom o (r .window) cs)) (push-goes s ts x) (runs (r .window) cs)
-  runs s (clear ∷ cs) = (counted-none (s .«last_cut_ts»), from-fresh (fromClearToClear (runFrom o fresh cs)) (runs fresh cs))
+      from-joined _ r (fromClearToClear (windowRunFrom o (r .window) cs)) (push-goes s ts x) (runs (r .window) cs)
+  runs s (clear ∷ cs) = (counted-none (s .«last_cut_ts»), from-fresh (fromClearToClear (windowRunFrom o fresh cs)) (runs fresh cs))
 
-  pub distance : (calls : List Call) → Holds o (run o calls)
-  distance calls = from-fresh (fromClearToClear (run o calls)) (runs fresh calls)
+  pub distance : (calls : List WindowCall) → PartsHold o (windowRun o calls)
+  distance calls = from-fresh (fromClearToClear (windowRun o calls)) (runs fresh calls)

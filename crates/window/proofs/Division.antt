@@ -3,7 +3,7 @@ use Prim.Native.Nat.{ℕ}
 use mathlib.Core.Path.{_≡_, refl, ap, _∙_}
 use mathlib.Core.List.{List, [], _∷_, _++_}
 use Rattle.window.specs.Calls.{refused, unscored, scored, clear, Answered, _brought_}
-use Rattle.window.specs.Claim.{joined, fromClearToClear}
+use Rattle.window.specs.Claim.{joinedPart, fromClearToClear}
 
 abbrev answers : {A : Type 0} → List (Answered A) → List A
 answers [] = []
@@ -13,7 +13,7 @@ abbrev all : {A : Type 0} → List (List A) → List A
 all [] = []
 all (p ∷ ps) = p ++ all ps
 
-all-joined : {A : Type 0} (a : A) (ps : List (List A)) → all (joined a ps) ≡ a ∷ all ps
+all-joined : {A : Type 0} (a : A) (ps : List (List A)) → all (joinedPart a ps) ≡ a ∷ all ps
 all-joined a [] = refl
 all-joined a (p ∷ ps) = refl
 

@@ -15,7 +15,7 @@ use Rattle.filter.specs.Claim.{cutsIn}
 use Rattle.window.specs.declared.WindowOptions.{WindowOptions}
 use Rattle.window.specs.declared.Window.{Window}
 use Rattle.window.specs.Window.{fresh, canHold, withoutOldest, pushedList, pushedSum, pushed, average, tiny, capped, ratioOf, thresholdMet, judged, checked, pushAndCheck}
-use Rattle.window.specs.Calls.{Call, refused, unscored, scored, clear, run}
+use Rattle.window.specs.Calls.{WindowCall, refused, unscored, scored, clear, windowRun}
 use Rattle.window.specs.Claim.{fromClearToClear}
 
 -- window 1, `min_content_val` 15, threshold 3
@@ -59,13 +59,13 @@ not-afresh = (refl, refl, refl)
 
 -- ---- a list of calls
 
-at : ℕ → ℕ → Call
+at : ℕ → ℕ → WindowCall
 at t x = scored (record { micros = pos t }) (float x)
 
 -- what the calls bring, from clear to clear. The cut is the target's stamp, one call late; the next at the same distance but too early is none; after
 -- the clear the window fills anew.
 calls :
-    map cutsIn (fromClearToClear (run options (at 0 1 ∷ unscored ∷ at 400000 30 ∷ refused ∷ at 900000 1 ∷ at 1300000 30 ∷ at 1400000 1 ∷ at 1500000 30 ∷ at 1600000 1 ∷ clear ∷ at 1700000 1 ∷ at 1800000 30 ∷ at 1900000 1 ∷ [])))
+    map cutsIn (fromClearToClear (windowRun options (at 0 1 ∷ unscored ∷ at 400000 30 ∷ refused ∷ at 900000 1 ∷ at 1300000 30 ∷ at 1400000 1 ∷ at 1500000 30 ∷ at 1600000 1 ∷ clear ∷ at 1700000 1 ∷ at 1800000 30 ∷ at 1900000 1 ∷ [])))
     ≡ (pos 400000 ∷ pos 1500000 ∷ []) ∷ (pos 1800000 ∷ []) ∷ []
 unfolding options at fresh canHold withoutOldest pushedList pushedSum pushed average capped ratioOf thresholdMet judged checked pushAndCheck virtualSeed saturatingSub seeded minLengthMet add sub div lt le isNan ofInt ofBits
 calls = refl

@@ -1,4 +1,4 @@
--- A list of calls on one adaptive detector, as its window sees them (document 01, the second paragraph). The detector's own calls act on these: a
+-- A list of calls on one adaptive detector, as its window sees them. The detector's own calls act on these: a
 -- frame call that it accepts is `scored` here, or `unscored` where it starts a stretch, whatever the pixels were.
 use mathlib.Core.List.{List, [], _∷_}
 use lib.Ieee.{Float}
@@ -9,14 +9,15 @@ use Rattle.window.specs.declared.Window.{Window}
 use Rattle.window.specs.declared.WindowStep.{WindowStep}
 use Rattle.window.specs.Window.{fresh, unchanged, pushAndCheck}
 
-pub data Call : Type 0 where
-  refused : Call  -- a call that is refused
-  unscored : Call  -- an accepted frame call without a score: the first of a stretch
-  scored : Timestamp → Float → Call  -- an accepted frame call with a score
-  clear : Call  -- an accepted `clear`
+-- a call, as far as it concerns the window
+pub data WindowCall : Type 0 where
+  refused : WindowCall  -- a call that is refused
+  unscored : WindowCall  -- an accepted frame call without a score: the first of a stretch
+  scored : Timestamp → Float → WindowCall  -- an accepted frame call with a score
+  clear : WindowCall  -- an accepted `clear`
 
 -- a refusal returns the old state and no cut; a frame without a score gives no cut, and the window stays, whatever the frame's size; only `clear` drops it
-abbrev pub turn : WindowOptions → Window → Call → WindowStep
+abbrev pub turn : WindowOptions → Window → WindowCall → WindowStep
 turn o s refused = unchanged s
 turn o s unscored = unchanged s
 turn o s (scored ts x) = pushAndCheck o s ts x
@@ -25,13 +26,13 @@ turn o s clear = unchanged fresh
 -- a call with what it brought
 infixl 20 _brought_
 pub data Answered (A : Type 0) : Type 0 where
-  _brought_ : Call → A → Answered A
+  _brought_ : WindowCall → A → Answered A
 
 -- each call gets the state that the last one returned
-abbrev pub runFrom : WindowOptions → Window → List Call → List (Answered MaybeTimestamp)
-runFrom o s [] = []
-runFrom o s (c ∷ cs) = (c brought turn o s c .cut) ∷ runFrom o (turn o s c .window) cs
+abbrev pub windowRunFrom : WindowOptions → Window → List WindowCall → List (Answered MaybeTimestamp)
+windowRunFrom o s [] = []
+windowRunFrom o s (c ∷ cs) = (c brought turn o s c .cut) ∷ windowRunFrom o (turn o s c .window) cs
 
 -- a list of calls, from a fresh state
-abbrev pub run : WindowOptions → List Call → List (Answered MaybeTimestamp)
-run o calls = runFrom o fresh calls
+abbrev pub windowRun : WindowOptions → List WindowCall → List (Answered MaybeTimestamp)
+windowRun o calls = windowRunFrom o fresh calls

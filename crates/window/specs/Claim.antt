@@ -1,56 +1,59 @@
--- Demand 3 for adaptive calls: what holds of every list of calls. Document 01's second paragraph has the words for lists, refused calls and the
--- distance; here the cuts keep it from clear to clear, over changes of size, whatever the clock does (docs/DECISIONS.md).
+-- What holds of every list of adaptive calls: the cuts keep the distance from clear to clear, over changes of size and whatever the clock does.
 -- Everything here is said of the calls and their answers alone, and nothing of the detector's state.
 use mathlib.Core.Path.{_≡_}
 use mathlib.Core.Bool.{Bool, true, false}
 use mathlib.Core.List.{List, [], _∷_}
 use Rattle.timestamp.specs.declared.MaybeTimestamp.{MaybeTimestamp}
-use Rattle.filter.specs.Claim.{leaveOut, cutsIn, KeepsDistance, All}
+use Rattle.laws.specs.Lists.{leaveOut, All}
+use Rattle.filter.specs.Claim.{cutsIn, KeepsDistance}
 use Rattle.window.specs.declared.WindowOptions.{WindowOptions}
-use Rattle.window.specs.Calls.{Call, refused, unscored, scored, clear, Answered, _brought_, run}
+use Rattle.window.specs.Calls.{WindowCall, refused, unscored, scored, clear, Answered, _brought_, windowRun}
 
--- ---- "When refused calls are left out, each other call still brings what it brought"
+-- ---- refused calls left out
 
-abbrev pub isRefused : Call → Bool
-isRefused refused = true
-isRefused unscored = false
-isRefused (scored ts x) = false
-isRefused clear = false
+-- a refused call
+abbrev pub windowRefused : WindowCall → Bool
+windowRefused refused = true
+windowRefused unscored = false
+windowRefused (scored ts x) = false
+windowRefused clear = false
 
-abbrev pub callOf : {A : Type 0} → Answered A → Call
+-- the call of an answered call
+abbrev pub callOf : {A : Type 0} → Answered A → WindowCall
 callOf (c brought a) = c
 
+-- the answered calls that were not refused
 abbrev pub withoutRefused : {A : Type 0} → List (Answered A) → List (Answered A)
-withoutRefused {A} xs = leaveOut (λ (x : Answered A). isRefused (callOf x)) xs
+withoutRefused {A} xs = leaveOut (λ (x : Answered A). windowRefused (callOf x)) xs
 
 -- ---- from clear to clear
 
 -- an answer, before the parts of the answers after it
-abbrev pub joined : {A : Type 0} → A → List (List A) → List (List A)
-joined a [] = (a ∷ []) ∷ []
-joined a (p ∷ ps) = (a ∷ p) ∷ ps
+abbrev pub joinedPart : {A : Type 0} → A → List (List A) → List (List A)
+joinedPart a [] = (a ∷ []) ∷ []
+joinedPart a (p ∷ ps) = (a ∷ p) ∷ ps
 
 -- The answers in parts, each of which ends with a clear, but the last. The division is by the calls alone: it is the same whatever the answers are,
 -- and of whatever type. Every answer is in a part.
 abbrev pub fromClearToClear : {A : Type 0} → List (Answered A) → List (List A)
 fromClearToClear [] = [] ∷ []
-fromClearToClear ((refused brought a) ∷ xs) = joined a (fromClearToClear xs)
-fromClearToClear ((unscored brought a) ∷ xs) = joined a (fromClearToClear xs)
-fromClearToClear ((scored ts x brought a) ∷ xs) = joined a (fromClearToClear xs)
+fromClearToClear ((refused brought a) ∷ xs) = joinedPart a (fromClearToClear xs)
+fromClearToClear ((unscored brought a) ∷ xs) = joinedPart a (fromClearToClear xs)
+fromClearToClear ((scored ts x brought a) ∷ xs) = joinedPart a (fromClearToClear xs)
 fromClearToClear ((clear brought a) ∷ xs) = (a ∷ []) ∷ fromClearToClear xs
 
 -- ---- the claim
 
--- "keeps the distance when each stamp is at least the minimum past the one before, in whole numbers"
-abbrev pub Keeps : WindowOptions → List MaybeTimestamp → Type 0
-Keeps o answers = KeepsDistance (o .«min_duration») (cutsIn answers)
+-- each cut is at least the minimum past the one before
+abbrev pub PartKeeps : WindowOptions → List MaybeTimestamp → Type 0
+PartKeeps o answers = KeepsDistance (o .«min_duration») (cutsIn answers)
 
--- Demand 3, of calls and what they brought: from clear to clear the cuts keep the distance
-abbrev pub Holds : WindowOptions → List (Answered MaybeTimestamp) → Type 0
-Holds o xs = All (Keeps o) (fromClearToClear xs)
+-- the claim, of calls and what they brought: from clear to clear the cuts keep the distance
+abbrev pub PartsHold : WindowOptions → List (Answered MaybeTimestamp) → Type 0
+PartsHold o xs = All (PartKeeps o) (fromClearToClear xs)
 
--- Demand 3, of a list of calls from a fresh state
-pub record Claim (o : WindowOptions) (calls : List Call) : Type 0 where
-  pub holds : Holds o (run o calls)
+-- the claim, of a list of calls from a fresh state
+pub record WindowClaim (o : WindowOptions) (calls : List WindowCall) : Type 0 where
+  pub holds : PartsHold o (windowRun o calls)
   -- without the refused calls each other call brings what it brought
-  pub left-out : run o (leaveOut isRefused calls) ≡ withoutRefused (run o calls)
+  pub left-out : windowRun o (leaveOut windowRefused calls) ≡ withoutRefused (windowRun o calls)

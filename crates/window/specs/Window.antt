@@ -1,4 +1,4 @@
--- The window rule of document 01, `src/adaptive.rs`, by the branches of `push_and_check`. A scored frame comes as its stamp and its score.
+-- The window rule, by the branches of `push_and_check`. A scored frame comes as its stamp and its score.
 use Prim.Native.Nat.{ℕ, _+_, _*_, min}
 use mathlib.Core.Bool.{Bool, false, cond, _&&_}
 use mathlib.Core.List.{List, _++_}
@@ -33,7 +33,7 @@ emptyFrom last =
       «last_target_score» = score.None;
     }
 
--- "129 stamps and 129 scores, all zero at the start, with a count"
+-- a fresh window: 129 stamps and 129 scores, all zero, none of them counted
 unfoldable pub fresh : Window
 fresh = emptyFrom None
 
@@ -67,10 +67,11 @@ withoutOldest n xs = take n (drop 1 xs) ++ drop n xs
 unfoldable pub pushedList : {A : Type 0} → (full : Bool) (n : ℕ) → List A → A → List A
 pushedList full n xs x = set (cond full (withoutOldest n xs) xs) n x
 
--- "The running sum adds the new score, then subtracts the oldest; it is never summed afresh."
+-- the running sum: the new score is added, then the oldest subtracted; it is never summed afresh
 unfoldable pub pushedSum : (full : Bool) (sum score oldest : Float) → Float
 pushedSum full sum score oldest = cond full (sub binary64 (add binary64 sum score) oldest) (add binary64 sum score)
 
+-- the window after a score is pushed; n is one less than its full count
 unfoldable pub pushed : ℕ → Window → Timestamp → Float → Window
 pushed n s ts x =
     record {
@@ -89,10 +90,11 @@ pushed n s ts x =
 abbrev pub targetStamp : WindowOptions → Window → Timestamp
 targetStamp o s = record { micros = getD (s .stamps) (o .«window_width») (pos 0) }
 
+-- the score at the same place
 abbrev pub targetScore : WindowOptions → Window → Float
 targetScore o s = getD (s .scores) (o .«window_width») nan
 
--- "average of the others": (sum - target) / (2 × window)
+-- the average of the scores but the target: (sum - target) / (2 × window)
 unfoldable pub average : WindowOptions → (sum target : Float) → Float
 average o sum target = div binary64 (sub binary64 sum target) (float (others o))
 
@@ -104,11 +106,11 @@ tiny = div binary64 (float 1) (float 100000)
 abbrev pub minOf : Float → Float → Float
 minOf x y = cond (lt x y) x y
 
--- "min(target / average, 255), and 255 for a NaN quotient"
+-- a quotient, at most 255, and 255 where it is NaN
 unfoldable pub capped : Float → Float
 capped q = cond (isNan q) (float 255) (minOf q (float 255))
 
--- "average of the others under 1e-5 in size gives 255 if the target reaches `min_content_val`, else 0"
+-- the target over the average; an average under 1e-5 in size gives 255 if the target reaches `min_content_val`, and else 0
 unfoldable pub ratioOf : WindowOptions → (target avg : Float) → Float
 ratioOf o target avg =
     cond (lt (absOf avg) tiny)
@@ -154,5 +156,6 @@ judged o s =
 unfoldable pub checked : WindowOptions → Window → WindowStep
 checked o s = cond (isFull (others o) s) (judged o s) (unchanged s)
 
+-- a scored frame; a window that cannot hold as many scores as its settings say is left as it is
 unfoldable pub pushAndCheck : WindowOptions → Window → Timestamp → Float → WindowStep
 pushAndCheck o s ts x = cond (canHold o (s .count)) (checked o (pushed (others o) s ts x)) (unchanged s)

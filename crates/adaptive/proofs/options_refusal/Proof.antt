@@ -1,6 +1,6 @@
 -- `adaptive::options_refusal` meets its contract: 10, 11, and then the rows that both detectors share.
 use borrow.Author.Needs.{needs}
-use mathlib.Core.Path.{_≡_, _∙_, sym}
+use mathlib.Core.Path.{_≡_, _∙_}
 use mathlib.Core.Bool.{cond, not}
 use Prim.Native.Nat.{ℕ, _≤_}
 use native.Mathlib.Decide.{ℕ-discrete}

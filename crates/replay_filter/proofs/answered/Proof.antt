@@ -1,7 +1,17 @@
 -- `answered` meets its contract: `clear`, or the frame call's promise.
 use borrow.Author.Needs.{needs}
 use borrow.Author.Tests.{eq-eqb, ne-eqb}
-use mathlib.Core.Path.{refl}
+use mathlib.Core.Path.{refl, sym, ap, _∙_}
+use mathlib.Core.List.{[], _∷_}
+use Prim.Native.Nat.{ℕ}
+use lib.IntN.{pos}
+use lib.ListN.{length, replicate, length-replicate}
+use Rattle.frame_call.specs.Call.{Outcome}
+use Rattle.frame_call.proofs.Returned.{lent-same}
+use Rattle.content.specs.declared.Answer.{Answer}
+use Rattle.content.specs.Options.{pictureOptions}
+use Rattle.content.specs.State.{badState, refusedAnswer, clearedAnswer}
+use Rattle.content.specs.Step.{stepped}
 use Rattle.replay_filter.specs.Lists.{answeredOf}
 use Rattle.replay_filter.proofs.answered.Statement.{statement}
 use Rattle.replay_filter.proofs.answered.Tie as tie
@@ -36,7 +46,12 @@ unfolding answeredOf
 returns-2 c =
     let p = c .before .before .before .before .before in
     let s = p .before .before .before .before in
-    rw (ne-eqb _ _ (s .before .before .if1 .left), ← s .stride .ensures) (p .process-luma .ensures .answered, p .process-luma .ensures .stored)
+    let a = s .before .before .before .before .before .args in
+    let same = lent-same (a .d .stream) (pictureOptions (a .d .options)) (badState (a .d)) (stepped (a .d)) (refusedAnswer (a .d)) (clearedAnswer (a .d)) (a .luma ∷ []) 1 1 (s .stride .result) (a .ts)
+    (a .store .now) (a .scratch .now) (replicate (length (a .scratch .now)) 0) (a .magnitudes .now) (replicate (length (a .magnitudes .now)) (pos 0))
+    (sym (length-replicate {A = ℕ} (length (a .scratch .now)) 0)) (sym (length-replicate (length (a .magnitudes .now)) (pos 0))) in
+    rw (ne-eqb _ _ (s .before .before .if1 .left), ← s .stride .ensures)
+    (p .process-luma .ensures .answered ∙ ap (λ (o : Outcome Answer). o .answer) same, p .process-luma .ensures .stored ∙ ap (λ (o : Outcome Answer). o .store) same)
 
 pub answered-spec : {M : Type 1} → statement M
 answered-spec =

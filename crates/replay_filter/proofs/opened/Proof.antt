@@ -1,7 +1,6 @@
 -- `opened` meets its contract: five draws and the settings call.
 use borrow.Author.Needs.{needs}
 use native.Mathlib.Omega.{arith}
-use mathlib.Core.Path.{refl}
 use Rattle.replay_filter.specs.Lists.{openedOf}
 use Rattle.replay_filter.proofs.opened.Statement.{statement}
 use Rattle.replay_filter.proofs.opened.Tie as tie

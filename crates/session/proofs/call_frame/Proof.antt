@@ -5,9 +5,10 @@ use Prim.Native.Nat.{_*_}
 use native.Mathlib.Omega.{arith}
 use lib.ListN.{length, take}
 use lib.Seq.{length-take-le}
-use Rattle.content_calls.specs.Call.{Outcome}
+use Rattle.content.specs.declared.Answer.{Answer}
+use Rattle.frame_call.specs.Call.{Outcome}
 use Rattle.session.specs.Sessions.{frameCallOf}
-use Rattle.session.proofs.Calls.{lent-same}
+use Rattle.session.proofs.Calls.{lent}
 use Rattle.session.proofs.call_frame.Statement.{statement}
 use Rattle.session.proofs.call_frame.Tie as tie
 
@@ -33,8 +34,8 @@ returns c =
     let scratch : length (s .args .scratch .now) ≡ 9216 = search needs in
     let magnitudes : length (s .args .magnitudes .now) ≡ 1024 = search needs in
     let f = s .args .f in
-    let same = lent-same (s .args .s .detector) (take (f .width * f .height) (s .args .luma .now)) (f .width) (f .height) (f .width) (f .stamp) (s .args .store .now) (s .args .scratch .now) (s .args .magnitudes .now) scratch magnitudes in
-    (c .process-luma .ensures .answered ∙ ap (λ (o : Outcome). o .answer) same, c .process-luma .ensures .stored ∙ ap (λ (o : Outcome). o .store) same)
+    let same = lent (s .args .s .detector) (take (f .width * f .height) (s .args .luma .now)) (f .width) (f .height) (f .width) (f .stamp) (s .args .store .now) (s .args .scratch .now) (s .args .magnitudes .now) scratch magnitudes in
+    (c .process-luma .ensures .answered ∙ ap (λ (o : Outcome Answer). o .answer) same, c .process-luma .ensures .stored ∙ ap (λ (o : Outcome Answer). o .store) same)
 
 pub call-frame-spec : {M : Type 1} → statement M
 call-frame-spec =

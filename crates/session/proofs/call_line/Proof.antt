@@ -2,7 +2,8 @@
 use borrow.Author.Needs.{needs}
 use mathlib.Core.Path.{_≡_, sym, ap, _∙_}
 use mathlib.Core.Bool.{true, false}
-use Rattle.content_calls.specs.Call.{Outcome}
+use Rattle.content.specs.declared.Answer.{Answer}
+use Rattle.frame_call.specs.Call.{Outcome}
 use Rattle.frame_line.specs.declared.FrameLine.{FrameLine}
 use Rattle.frame_line.specs.Line.{isFrame}
 use Rattle.session.proofs.Calls.{line-frame, line-pixels, line-accepted, line-refused}
@@ -24,7 +25,7 @@ returns c =
     let line = s .args .line .now in
     let is : isFrame line ≡ true = sym (line-frame line) ∙ sym (ap (λ (f : FrameLine). f .«is_frame») (r .read-line .ensures .0)) ∙ c .before .before .before .before .before .before .if1 .taken in
     let same = line-accepted (s .args .s) line _ (s .args .store .now) _ (r .read-line .ensures .0) is (r .read-line .ensures .1 is) in
-    (c .call-frame .ensures .0 ∙ ap (λ (o : Outcome). o .answer) same, c .call-frame .ensures .1 ∙ ap (λ (o : Outcome). o .store) same)
+    (c .call-frame .ensures .0 ∙ ap (λ (o : Outcome Answer). o .answer) same, c .call-frame .ensures .1 ∙ ap (λ (o : Outcome Answer). o .store) same)
 
 without-score-requires : tie.Need-without-score-requires
 without-score-requires c κs = search needs
@@ -36,7 +37,7 @@ returns-2 c =
     let line = s .args .line .now in
     let not-frame : isFrame line ≡ false = sym (line-frame line) ∙ sym (ap (λ (f : FrameLine). f .«is_frame») (r .read-line .ensures .0)) ∙ c .before .before .if1 .left in
     let same = line-refused (s .args .s) line (s .args .store .now) not-frame in
-    (c .without-score .ensures ∙ sym (ap (λ (o : Outcome). o .answer) same), sym (ap (λ (o : Outcome). o .store) same))
+    (c .without-score .ensures ∙ sym (ap (λ (o : Outcome Answer). o .answer) same), sym (ap (λ (o : Outcome Answer). o .store) same))
 
 pub call-line-spec : {M : Type 1} → statement M
 call-line-spec =

@@ -1,6 +1,6 @@
 -- `stream::components` meets its contract: each component is a mean.
 use borrow.Author.Needs.{needs}
-use Rattle.stream.specs.Sums.{componentsOf}
+use Rattle.stream.specs.Stream.{componentsOf}
 use Rattle.stream.proofs.components.Statement.{statement}
 use Rattle.stream.proofs.components.Tie as tie
 

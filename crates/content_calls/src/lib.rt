@@ -1,1 +1,0 @@
-// No code: the content detector's calls, as one definition, and what a frame call promises.
