@@ -6,14 +6,15 @@ use Prim.Native.Nat.{ℕ, _<_}
 use native.Mathlib.Omega.{arith}
 use lib.Dec.{eqb}
 use Rattle.timestamp.specs.declared.Timestamp.{Timestamp}
-use Rattle.scoring.specs.Planes.{Planes}
 use Rattle.adaptive.specs.declared.Detector.{Detector}
 use Rattle.adaptive.specs.declared.Answer.{Answer}
-use Rattle.adaptive.specs.State.{badState, clearedAnswer}
+use Rattle.adaptive.specs.State.{badState, refusedAnswer, clearedAnswer}
 use Rattle.adaptive.specs.Step.{stepped}
-use Rattle.content_calls.specs.Call.{Memory, clear}
-use Rattle.adaptive_calls.specs.Call.{Outcome, accepted, frameCall}
-use Rattle.adaptive_calls.specs.Called.{Called}
+use Rattle.frame_call.specs.declared.Picture.{Picture}
+use Rattle.frame_call.specs.Call.{answeredBy}
+use Rattle.frame_call.specs.Call.{Memory, clear}
+use Rattle.frame_call.specs.Call.{Outcome}
+use Rattle.frame_call.specs.Call.{Called}
 use Rattle.adaptive_words.specs.Record.{adaptiveWords, adaptiveOf}
 use Rattle.station_answer.specs.Answer.{answerWords, ReadAs}
 use Rattle.station_answer.specs.Contracts.{FrameContract, ClearContract}
@@ -21,23 +22,23 @@ use Rattle.station_answer.proofs.Contracts.{frame-refused, frame-done, clear-re
 use Rattle.adaptive_station.specs.Station.{adaptiveLayout, broughtBy, adaptiveCall}
 
 -- a refused frame call gives the detector back
-pub refused-keeps : (d : Detector) (n w h : ℕ) (p : Planes) (ts : Timestamp) (store : List ℕ)
-    → 0 < frameCall d n w h p ts store .answer .number → frameCall d n w h p ts store .answer .detector ≡ d
-unfolding frameCall accepted stepped
-refused-keeps d n w h p ts store some = by-zero (eqb n 0) refl some
+pub refused-keeps : (d : Detector) (ts : Timestamp) (p : Picture) → 0 < answeredBy (stepped d ts) (refusedAnswer d) p .number
+    → answeredBy (stepped d ts) (refusedAnswer d) p .detector ≡ d
+unfolding stepped
+refused-keeps d ts p some = by-zero (eqb (p .number) 0) refl some
   where
-    by-zero : (b : Bool) → eqb n 0 ≡ b → 0 < frameCall d n w h p ts store .answer .number → frameCall d n w h p ts store .answer .detector ≡ d
+    by-zero : (b : Bool) → eqb (p .number) 0 ≡ b → 0 < answeredBy (stepped d ts) (refusedAnswer d) p .number → answeredBy (stepped d ts) (refusedAnswer d) p .detector ≡ d
     by-zero true e lt = absurd (omega (arith, rw e at lt))
     by-zero false e lt = rw e
 
-module _ (o : Outcome) (s a : List ℕ) (m m′ : Memory) (x : Answer) (called : Called o x m m′) where
+module _ (o : Outcome Answer) (s a : List ℕ) (m m′ : Memory) (x : Answer) (called : Called o x (x .number) m m′) where
   number-of : x .number ≡ o .answer .number
   number-of = ap (λ (y : Answer). y .number) (called .answered)
 
   pub told-refused : (0 < o .answer .number → o .answer .detector ≡ adaptiveOf s) → 0 < x .number
       → FrameContract adaptiveLayout (broughtBy o) (x .number) s s a a m m′
   told-refused keeps some =
-      frame-refused adaptiveLayout (broughtBy o) s a m m′ (called .stored) (called .scratch-length) (called .magnitudes-length) (called .refused)
+      frame-refused adaptiveLayout (broughtBy o) s a m m′ (called .stored) (called .scratch-length) (called .magnitudes-length) (λ h. called .refused (omega (arith, number-of)))
       (x .number) number-of some (sym (keeps (omega (arith, number-of))))
 
   pub told-done : x .number ≡ 0 → (s′ a′ : List ℕ) → (s′ ≡ adaptiveWords (x .detector)) × (adaptiveOf s′ ≡ x .detector)
@@ -46,7 +47,7 @@ module _ (o : Outcome) (s a : List ℕ) (m m′ : Memory) (x : Answer) (called :
   told-done z s′ a′ es ea =
       let st = rw (called .answered) at es in
       let an = rw (called .answered) at ea in
-      frame-done adaptiveLayout (broughtBy o) s a m m′ (called .stored) (called .scratch-length) (called .magnitudes-length) (called .refused)
+      frame-done adaptiveLayout (broughtBy o) s a m m′ (called .stored) (called .scratch-length) (called .magnitudes-length) (λ h. called .refused (omega (arith, number-of)))
       (x .number) number-of z s′ a′ (st .0) (st .1) (an .0) (an .1)
 
 -- a refused `clear` gives the detector back

@@ -1,8 +1,10 @@
 -- The adaptive detector as the station calls it: its record in words, the results of its calls, and what settings return.
 use Rattle.adaptive.specs.declared.Detector.{Detector}
+use Rattle.adaptive.specs.declared.Answer.{Answer}
 use Rattle.adaptive.specs.declared.Settled.{Settled}
-use Rattle.content_calls.specs.Call.{Call}
-use Rattle.adaptive_calls.specs.Call.{Outcome, called}
+use Rattle.frame_call.specs.Call.{Call}
+use Rattle.frame_call.specs.Call.{Outcome}
+use Rattle.adaptive.specs.Step.{called}
 use Rattle.adaptive_words.specs.Record.{adaptiveWords, adaptiveOf}
 use Rattle.station_answer.specs.Contracts.{Layout, Brought, Started}
 
@@ -11,7 +13,7 @@ abbrev pub adaptiveLayout : Layout Detector
 adaptiveLayout = record { wordsOf = adaptiveWords; heldBy = adaptiveOf }
 
 -- the result of a call, by the outcome that the detector's definition gives
-abbrev pub broughtBy : Outcome → Brought Detector
+abbrev pub broughtBy : Outcome Answer → Brought Detector
 broughtBy o =
     record {
       number = o .answer .number;

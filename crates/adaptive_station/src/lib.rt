@@ -2,10 +2,11 @@
 // not a record is refused by 15.
 ghost use mathlib.Core.Path.{_≡_};
 ghost use Rattle.score.specs.Scores.{components as components·of};
-ghost use Rattle.words.specs.Choices.{scoreTag, componentsTag, componentsShown};
+ghost use Rattle.words.specs.Choices.{scoreTag, componentsTag};
+ghost use Rattle.stream.specs.Stream.{componentsShown};
 ghost use Rattle.adaptive.specs.Options.{options, defaults};
 ghost use Rattle.adaptive.specs.State.{settled};
-ghost use Rattle.content_calls.specs.Call.{luma, bgr, hsv, clear, memory};
+ghost use Rattle.frame_call.specs.Call.{luma, bgr, hsv, clear, memory};
 ghost use Rattle.adaptive_words.specs.Record.{adaptiveWords, adaptiveOf};
 ghost use Rattle.station_answer.specs.Answer.{stamp, answerWords, ReadAs, scoreShown, componentAt};
 ghost use Rattle.station_answer.specs.Settings.{kernelSet, flagSet};

@@ -5,7 +5,9 @@ use Prim.Native.Nat.{ℕ}
 use lib.ListN.{take, drop}
 use Rattle.adaptive.specs.declared.Detector.{Detector}
 use Rattle.adaptive.specs.Options.{defaults, options}
-use Rattle.adaptive.specs.State.{fresh, zeroComponents}
+use Rattle.adaptive.specs.State.{fresh}
+use Rattle.stream.specs.Stream.{componentsShown}
+use Rattle.score.specs.declared.MaybeComponents.the-variants.{None as noComponents}
 use Rattle.words.specs.Stream.{streamWords, isStream, streamOf}
 use Rattle.adaptive_words.specs.Options.{optionsWords, isOptions, optionsOf}
 use Rattle.adaptive_words.specs.Window.{windowWords, isWindow, windowOf, stampsWords, stampsOf, scoresWords, scoresOf}
@@ -29,7 +31,7 @@ foreign =
     (defaults .«min_duration»)
     (defaults .«window_width»)
     (defaults .«min_content_val»)
-    zeroComponents
+    (componentsShown noComponents)
     (defaults .«kernel_size»)
     (defaults .«initial_cut»))
 

@@ -7,16 +7,17 @@ use native.Mathlib.Omega.{arith}
 use borrow.Author.Tests.{eqb-true, eq-eqb, ne-eqb, lt-ltb, le-ltb}
 use lib.Dec.{eqb}
 use Rattle.timestamp.specs.declared.Timestamp.{Timestamp}
-use Rattle.scoring.specs.Planes.{Planes}
 use Rattle.content.specs.declared.Detector.{Detector}
 use Rattle.content.specs.declared.Answer.{Answer}
 use Rattle.content.specs.declared.Options.{Options}
 use Rattle.content.specs.declared.Settled.{Settled}
 use Rattle.content.specs.Options.{defaults, optionsRefusal}
-use Rattle.content.specs.State.{fresh, badState, settled, clearedAnswer}
+use Rattle.content.specs.State.{fresh, badState, settled, refusedAnswer, clearedAnswer}
 use Rattle.content.specs.Step.{stepped}
-use Rattle.content_calls.specs.Call.{Memory, clear, Outcome, accepted, frameCall}
-use Rattle.content_calls.specs.Called.{Called}
+use Rattle.frame_call.specs.declared.Picture.{Picture}
+use Rattle.frame_call.specs.Call.{answeredBy}
+use Rattle.frame_call.specs.Call.{Memory, clear, Outcome}
+use Rattle.frame_call.specs.Call.{Called}
 use Rattle.content_words.specs.Record.{contentWords, contentOf}
 use Rattle.station_answer.specs.Answer.{answerWords, ReadAs}
 use Rattle.station_answer.specs.Contracts.{FrameContract, ClearContract}
@@ -24,23 +25,23 @@ use Rattle.station_answer.proofs.Contracts.{frame-refused, frame-done, clear-re
 use Rattle.content_station.specs.Station.{contentLayout, broughtBy, contentCall, settledBy}
 
 -- a refused frame call gives the detector back
-pub refused-keeps : (d : Detector) (n w h : ℕ) (p : Planes) (ts : Timestamp) (store : List ℕ)
-    → 0 < frameCall d n w h p ts store .answer .number → frameCall d n w h p ts store .answer .detector ≡ d
-unfolding frameCall accepted stepped
-refused-keeps d n w h p ts store some = by-zero (eqb n 0) refl some
+pub refused-keeps : (d : Detector) (ts : Timestamp) (p : Picture) → 0 < answeredBy (stepped d ts) (refusedAnswer d) p .number
+    → answeredBy (stepped d ts) (refusedAnswer d) p .detector ≡ d
+unfolding stepped
+refused-keeps d ts p some = by-zero (eqb (p .number) 0) refl some
   where
-    by-zero : (b : Bool) → eqb n 0 ≡ b → 0 < frameCall d n w h p ts store .answer .number → frameCall d n w h p ts store .answer .detector ≡ d
+    by-zero : (b : Bool) → eqb (p .number) 0 ≡ b → 0 < answeredBy (stepped d ts) (refusedAnswer d) p .number → answeredBy (stepped d ts) (refusedAnswer d) p .detector ≡ d
     by-zero true e lt = absurd (omega (arith, rw e at lt))
     by-zero false e lt = rw e
 
-module _ (o : Outcome) (s a : List ℕ) (m m′ : Memory) (x : Answer) (called : Called o x m m′) where
+module _ (o : Outcome Answer) (s a : List ℕ) (m m′ : Memory) (x : Answer) (called : Called o x (x .number) m m′) where
   number-of : x .number ≡ o .answer .number
   number-of = ap (λ (y : Answer). y .number) (called .answered)
 
   pub told-refused : (0 < o .answer .number → o .answer .detector ≡ contentOf s) → 0 < x .number
       → FrameContract contentLayout (broughtBy o) (x .number) s s a a m m′
   told-refused keeps some =
-      frame-refused contentLayout (broughtBy o) s a m m′ (called .stored) (called .scratch-length) (called .magnitudes-length) (called .refused)
+      frame-refused contentLayout (broughtBy o) s a m m′ (called .stored) (called .scratch-length) (called .magnitudes-length) (λ h. called .refused (omega (arith, number-of)))
       (x .number) number-of some (sym (keeps (omega (arith, number-of))))
 
   pub told-done : x .number ≡ 0 → (s′ a′ : List ℕ) → (s′ ≡ contentWords (x .detector)) × (contentOf s′ ≡ x .detector)
@@ -49,7 +50,7 @@ module _ (o : Outcome) (s a : List ℕ) (m m′ : Memory) (x : Answer) (called :
   told-done z s′ a′ es ea =
       let st = rw (called .answered) at es in
       let an = rw (called .answered) at ea in
-      frame-done contentLayout (broughtBy o) s a m m′ (called .stored) (called .scratch-length) (called .magnitudes-length) (called .refused)
+      frame-done contentLayout (broughtBy o) s a m m′ (called .stored) (called .scratch-length) (called .magnitudes-length) (λ h. called .refused (omega (arith, number-of)))
       (x .number) number-of z s′ a′ (st .0) (st .1) (an .0) (an .1)
 
 -- a refused `clear` gives the detector back

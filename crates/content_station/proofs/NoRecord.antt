@@ -1,36 +1,45 @@
 -- What is not a record is refused by 15, whatever the call.
-use mathlib.Core.Path.{_≡_, sym, _∙_}
-use mathlib.Core.Bool.{true, false}
+use mathlib.Core.Path.{_≡_, refl, sym, _∙_}
+use mathlib.Core.Bool.{Bool, true, false}
 use mathlib.Core.List.{List}
 use Prim.Native.Nat.{ℕ}
-use native.Mathlib.Decide.{ℕ-discrete}
-use borrow.Author.Tests.{eq-eqb, ne-eqb}
+use borrow.Author.Tests.{eqb-true}
+use lib.Dec.{eqb}
 use Rattle.timestamp.specs.declared.Timestamp.{Timestamp}
+use Rattle.stream.specs.declared.Stream.{Stream}
 use Rattle.scoring.specs.Planes.{Planes}
+use Rattle.frame_call.specs.declared.PictureOptions.{PictureOptions}
+use Rattle.frame_call.specs.declared.Picture.{Picture}
+use Rattle.frame_call.specs.Call.{Memory, Call, luma, bgr, hsv, clear, callRefusal, pictured, answeredBy}
 use Rattle.content.specs.declared.Detector.{Detector}
-use Rattle.content.specs.State.{badState, clearedAnswer}
-use Rattle.content.specs.Step.{stepped}
-use Rattle.content_calls.specs.Call.{Memory, Call, luma, bgr, hsv, clear, accepted, frameCall, called}
-use Rattle.content_frames.proofs.Refusals.{is-bad}
+use Rattle.content.specs.State.{badState, refusedAnswer, clearedAnswer}
+use Rattle.content.specs.Step.{stepped, called}
 use Rattle.content_words.specs.Record.{isContent, contentOf}
 use Rattle.content_words.proofs.Refused.{no-record-bad}
 use Rattle.station_answer.specs.Contracts.{FrameContract, ClearContract}
 use Rattle.content_station.specs.Station.{contentLayout, contentCall}
 
--- the number of a frame call's outcome
-call-number : (d : Detector) (n w h : ℕ) (p : Planes) (ts : Timestamp) (store : List ℕ) → Dec (n ≡ 0) → n ≡ frameCall d n w h p ts store .answer .number
-unfolding frameCall accepted stepped
-call-number d n w h p ts store (yes e) = rw (eq-eqb n 0 e) e
-call-number d n w h p ts store (no e) = rw (ne-eqb n 0 e)
+-- the number of an answer to a frame, and the number of a frame at a bad state
+answer-number : (d : Detector) (ts : Timestamp) (p : Picture) → answeredBy (stepped d ts) (refusedAnswer d) p .number ≡ p .number
+unfolding stepped
+answer-number d ts p = by-zero (eqb (p .number) 0) refl
+  where
+    by-zero : (b : Bool) → eqb (p .number) 0 ≡ b → answeredBy (stepped d ts) (refusedAnswer d) p .number ≡ p .number
+    by-zero true e = rw e (sym (eqb-true (p .number) 0 e))
+    by-zero false e = rw e
+
+picture-15 : (s : Stream) (o : PictureOptions) (bad : Bool) (u w h : ℕ) (p : Planes) (m : Memory) → bad ≡ true → pictured s o bad u w h p m .answer .number ≡ 15
+unfolding pictured callRefusal
+picture-15 s o bad u w h p m e = rw e
 
 cleared : (d : Detector) → badState d ≡ true → clearedAnswer d .number ≡ 15
 unfolding clearedAnswer
 cleared d b = rw b
 
 no-record-refused : (s : List ℕ) (c : Call) → isContent s ≡ false → called (contentOf s) c .answer .number ≡ 15
-no-record-refused s (luma plane w h stride ts m) e = sym (is-bad (contentOf s) _ _ (no-record-bad s e) ∙ call-number (contentOf s) _ w h _ ts (m .store) (ℕ-discrete _ 0))
-no-record-refused s (bgr pixels w h stride ts m) e = sym (is-bad (contentOf s) _ _ (no-record-bad s e) ∙ call-number (contentOf s) _ w h _ ts (m .store) (ℕ-discrete _ 0))
-no-record-refused s (hsv hs ss vs w h stride ts m) e = sym (is-bad (contentOf s) _ _ (no-record-bad s e) ∙ call-number (contentOf s) _ w h _ ts (m .store) (ℕ-discrete _ 0))
+no-record-refused s (luma plane w h stride ts m) e = answer-number (contentOf s) ts _ ∙ picture-15 _ _ _ _ w h _ m (no-record-bad s e)
+no-record-refused s (bgr pixels w h stride ts m) e = answer-number (contentOf s) ts _ ∙ picture-15 _ _ _ _ w h _ m (no-record-bad s e)
+no-record-refused s (hsv hs ss vs w h stride ts m) e = answer-number (contentOf s) ts _ ∙ picture-15 _ _ _ _ w h _ m (no-record-bad s e)
 no-record-refused s clear e = cleared (contentOf s) (no-record-bad s e)
 
 -- the number that a frame call returns, and that `clear` returns

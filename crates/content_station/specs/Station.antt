@@ -5,11 +5,13 @@ use Prim.Native.Nat.{ℕ}
 use lib.Dec.{eqb}
 use Rattle.frame.specs.Refusal.{firstThat}
 use Rattle.content.specs.declared.Detector.{Detector}
+use Rattle.content.specs.declared.Answer.{Answer}
 use Rattle.content.specs.declared.Options.{Options}
 use Rattle.content.specs.declared.Settled.{Settled}
 use Rattle.content.specs.Options.{defaults, optionsRefusal}
 use Rattle.content.specs.State.{fresh}
-use Rattle.content_calls.specs.Call.{Call, Outcome, called}
+use Rattle.frame_call.specs.Call.{Call, Outcome}
+use Rattle.content.specs.Step.{called}
 use Rattle.content_words.specs.Record.{contentWords, contentOf}
 use Rattle.station_answer.specs.Settings.{noMode}
 use Rattle.station_answer.specs.Contracts.{Layout, Brought, Started}
@@ -19,7 +21,7 @@ abbrev pub contentLayout : Layout Detector
 contentLayout = record { wordsOf = contentWords; heldBy = contentOf }
 
 -- the result of a call, by the outcome that the detector's definition gives
-abbrev pub broughtBy : Outcome → Brought Detector
+abbrev pub broughtBy : Outcome Answer → Brought Detector
 broughtBy o =
     record {
       number = o .answer .number;

@@ -5,7 +5,9 @@ use Prim.Native.Nat.{ℕ}
 use lib.ListN.{take, drop}
 use Rattle.content.specs.declared.Detector.{Detector}
 use Rattle.content.specs.Options.{defaults, options}
-use Rattle.content.specs.State.{fresh, zeroComponents}
+use Rattle.content.specs.State.{fresh}
+use Rattle.stream.specs.Stream.{componentsShown}
+use Rattle.score.specs.declared.MaybeComponents.the-variants.{None as noComponents}
 use Rattle.words.specs.Stream.{streamWords, isStream, streamOf}
 use Rattle.content_words.specs.Options.{optionsWords, isOptions, optionsOf}
 use Rattle.content_words.specs.Filter.{filterWords, isFilter, filterOf}
@@ -20,7 +22,7 @@ isContent w = isOptions (take 11 w) && isStream (take 10 (drop 11 w)) && isFilte
 
 -- what is read where the words are not a record: the weights are zero, so that every call refuses it by 15
 unfoldable pub foreign : Detector
-foreign = fresh (options (defaults .threshold) (defaults .«min_duration») zeroComponents (defaults .«filter_mode») (defaults .«kernel_size») (defaults .«initial_cut»))
+foreign = fresh (options (defaults .threshold) (defaults .«min_duration») (componentsShown noComponents) (defaults .«filter_mode») (defaults .«kernel_size») (defaults .«initial_cut»))
 
 -- the record that the words hold
 unfoldable pub contentOf : List ℕ → Detector

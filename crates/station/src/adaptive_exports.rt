@@ -1,10 +1,11 @@
 // The adaptive detector's calls, as the crate `adaptive_station` has them.
 ghost use mathlib.Core.Path.{_≡_};
 ghost use Rattle.score.specs.Scores.{components as components·of};
-ghost use Rattle.words.specs.Choices.{scoreTag, componentsTag, componentsShown};
+ghost use Rattle.words.specs.Choices.{scoreTag, componentsTag};
+ghost use Rattle.stream.specs.Stream.{componentsShown};
 ghost use Rattle.adaptive.specs.Options.{options, defaults};
 ghost use Rattle.adaptive.specs.State.{settled};
-ghost use Rattle.content_calls.specs.Call.{luma, bgr, hsv, clear, memory};
+ghost use Rattle.frame_call.specs.Call.{luma, bgr, hsv, clear, memory};
 ghost use Rattle.adaptive_words.specs.Record.{adaptiveOf};
 ghost use Rattle.station_answer.specs.Answer.{stamp, scoreShown, componentAt};
 ghost use Rattle.station_answer.specs.Settings.{kernelSet, flagSet};

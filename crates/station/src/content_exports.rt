@@ -1,10 +1,11 @@
 // The content detector's calls, as the crate `content_station` has them.
 ghost use mathlib.Core.Path.{_≡_};
 ghost use Rattle.score.specs.Scores.{components as components·of};
-ghost use Rattle.words.specs.Choices.{scoreTag, componentsTag, componentsShown};
+ghost use Rattle.words.specs.Choices.{scoreTag, componentsTag};
+ghost use Rattle.stream.specs.Stream.{componentsShown};
 ghost use Rattle.content.specs.Options.{options, defaults};
 ghost use Rattle.content.specs.State.{settled};
-ghost use Rattle.content_calls.specs.Call.{luma, bgr, hsv, clear, memory};
+ghost use Rattle.frame_call.specs.Call.{luma, bgr, hsv, clear, memory};
 ghost use Rattle.content_words.specs.Record.{contentOf};
 ghost use Rattle.station_answer.specs.Answer.{stamp, scoreShown, componentAt};
 ghost use Rattle.station_answer.specs.Settings.{modeSet, kernelSet, flagSet};

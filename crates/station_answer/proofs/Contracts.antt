@@ -5,7 +5,7 @@ use Prim.Native.Nat.{ℕ, _<_}
 use native.Mathlib.Omega.{arith}
 use borrow.Author.Tests.{eq-eqb, ne-eqb}
 use lib.ListN.{length}
-use Rattle.content_calls.specs.Call.{Memory}
+use Rattle.frame_call.specs.Call.{Memory}
 use Rattle.station_answer.specs.Answer.{answerWords, ReadAs, after}
 use Rattle.station_answer.specs.Contracts.{Layout, Brought, FrameContract, ClearContract}
 

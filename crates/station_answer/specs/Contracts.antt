@@ -7,7 +7,7 @@ use lib.ListN.{length}
 use Rattle.timestamp.specs.declared.MaybeTimestamp.{MaybeTimestamp}
 use Rattle.score.specs.declared.Components.{Components}
 use Rattle.score.specs.declared.MaybeScore.{MaybeScore}
-use Rattle.content_calls.specs.Call.{Memory}
+use Rattle.frame_call.specs.Call.{Memory}
 use Rattle.station_answer.specs.Answer.{answerWords, ReadAs, after}
 
 -- a detector's record `D` in words: the words of a record, and the record that words hold

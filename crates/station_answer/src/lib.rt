@@ -2,7 +2,8 @@
 // show.
 ghost use mathlib.Core.Path.{_≡_};
 ghost use Prim.Native.Nat.{max};
-ghost use Rattle.words.specs.Choices.{scoreTag, componentsTag, componentsShown};
+ghost use Rattle.words.specs.Choices.{scoreTag, componentsTag};
+ghost use Rattle.stream.specs.Stream.{componentsShown};
 ghost use Rattle.station_answer.specs.Sizes.{storeBytes, scratchBytes, magnitudesCount};
 ghost use Rattle.station_answer.specs.Answer.{answerWords, ReadAs, scoreShown, componentAt};
 ghost use Rattle.station_answer.specs.Settings.{flagSet, kernelSet};

@@ -16,8 +16,8 @@ use Rattle.adaptive.specs.declared.Detector.{Detector}
 use Rattle.adaptive.specs.Options.{defaults, optionsRefusal}
 use Rattle.adaptive.specs.State.{fresh, badState, settled, clearedAnswer}
 use Rattle.adaptive.specs.Step.{stepped}
-use Rattle.content_calls.specs.Call.{Call, luma, bgr, hsv, clear}
-use Rattle.adaptive_calls.specs.Call.{accepted, frameCall, called}
+use Rattle.frame_call.specs.Call.{Call, luma, bgr, hsv, clear}
+use Rattle.adaptive.specs.Step.{called}
 use Rattle.content_claim.specs.View.{ownNumber}
 use Rattle.adaptive_claim.specs.Claim.{runFrom, withAnswer, fromClearToClear, AdaptiveClaim}
 use Rattle.adaptive_claim.specs.Claim.{Made as Answer-made}

@@ -17,7 +17,8 @@ use Rattle.content.specs.declared.Detector.{Detector}
 use Rattle.content.specs.Options.{defaults, optionsRefusal}
 use Rattle.content.specs.State.{fresh, badState, settled, clearedAnswer}
 use Rattle.content.specs.Step.{stepped}
-use Rattle.content_calls.specs.Call.{Call, luma, bgr, hsv, clear, accepted, frameCall, called}
+use Rattle.frame_call.specs.Call.{Call, luma, bgr, hsv, clear}
+use Rattle.content.specs.Step.{called}
 use Rattle.content_claim.specs.View.{ownNumber, viewOf}
 use Rattle.content_claim.specs.Claim.{runFrom, withCut, ContentClaim}
 use Rattle.content_claim.specs.Claim.{Made as Answer-made}

@@ -8,7 +8,7 @@ use lib.Dec.{eqb}
 use Rattle.timestamp.specs.declared.MaybeTimestamp.{MaybeTimestamp}
 use Rattle.timestamp.specs.declared.MaybeTimestamp.the-variants.{None}
 use Rattle.filter.specs.Claim.{All, leaveOut}
-use Rattle.content_calls.specs.Call.{Memory, Call, clear}
+use Rattle.frame_call.specs.Call.{Memory, Call, clear}
 use Rattle.content_claim.specs.View.{ownNumber}
 use Rattle.station_answer.specs.Answer.{answerWords, cutIn}
 use Rattle.station_answer.specs.Contracts.{Layout, Brought, FrameContract}

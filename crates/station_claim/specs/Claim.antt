@@ -10,7 +10,7 @@ use Rattle.filter.specs.Claim.{All, leaveOut, cutsIn, KeepsDistance, Holds}
 use Rattle.content.specs.declared.Options.{Options}
 use Rattle.content.specs.Options.{filterOptions}
 use Rattle.adaptive.specs.declared.Options.{Options as AdaptiveOptions}
-use Rattle.content_calls.specs.Call.{Call}
+use Rattle.frame_call.specs.Call.{Call}
 use Rattle.content_claim.specs.View.{ownNumber, viewOf}
 use Rattle.adaptive_claim.specs.Claim.{withAnswer}
 use Rattle.station_answer.specs.Contracts.{Layout, Brought}

@@ -6,7 +6,7 @@ use Prim.Native.Nat.{ℕ}
 use lib.Dec.{eqb}
 use Rattle.timestamp.specs.declared.MaybeTimestamp.{MaybeTimestamp}
 use Rattle.timestamp.specs.declared.MaybeTimestamp.the-variants.{None}
-use Rattle.content_calls.specs.Call.{Memory, memory, Call, luma, bgr, hsv, clear}
+use Rattle.frame_call.specs.Call.{Memory, memory, Call, luma, bgr, hsv, clear}
 use Rattle.station_answer.specs.Answer.{cutIn}
 use Rattle.station_answer.specs.Contracts.{Layout, Brought, FrameContract, ClearContract}
 

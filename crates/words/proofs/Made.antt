@@ -17,7 +17,8 @@ use Rattle.score.specs.declared.MaybeScore.the-variants.{None as noScore, Some 
 use Rattle.score.specs.declared.MaybeComponents.{MaybeComponents}
 use Rattle.score.specs.declared.MaybeComponents.the-variants.{None as noComponents, Some as someComponents}
 use Rattle.stream.specs.declared.Stream.{Stream}
-use Rattle.words.specs.Choices.{flagWord, flagOf, stampTag, kernelTag, scoreTag, scoreWord, scoreOf, componentsTag, componentsShown, componentsIf}
+use Rattle.words.specs.Choices.{flagWord, flagOf, stampTag, kernelTag, scoreTag, scoreWord, scoreOf, componentsTag, componentsIf}
+use Rattle.stream.specs.Stream.{componentsShown}
 use Rattle.words.specs.Stream.{streamWords, isStream, streamOf}
 
 pub or-true : (b : Bool) → (b || true) ≡ true

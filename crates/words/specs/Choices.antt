@@ -93,11 +93,6 @@ abbrev pub componentsTag : MaybeComponents → ℕ
 componentsTag noComponents = 0
 componentsTag (someComponents c) = 1
 
--- the components whose bits are written: four times 0.0 where there are none, and the word of 0.0 is 0
-abbrev pub componentsShown : MaybeComponents → Components
-componentsShown noComponents = components (float 0) (float 0) (float 0) (float 0)
-componentsShown (someComponents c) = c
-
 -- components that may be missing: these, where there are any
 abbrev pub componentsIf : Bool → Components → MaybeComponents
 componentsIf true c = someComponents c

@@ -7,7 +7,8 @@ use lib.Ieee.{binary64, toBits}
 use lib.ListN.{getD}
 use Rattle.score.specs.declared.Components.{Components}
 use Rattle.stream.specs.declared.Stream.{Stream}
-use Rattle.words.specs.Choices.{flagWord, flagOf, scoreTag, scoreWord, scoreOf, componentsTag, componentsShown, componentsOf, componentsIf}
+use Rattle.words.specs.Choices.{flagWord, flagOf, scoreTag, scoreWord, scoreOf, componentsTag, componentsOf, componentsIf}
+use Rattle.stream.specs.Stream.{componentsShown}
 
 -- the word at a place
 abbrev pub wordAt : List ℕ → ℕ → ℕ

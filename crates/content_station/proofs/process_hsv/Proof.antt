@@ -47,7 +47,7 @@ returns-2 c =
     let p = c .before .before .before .before .before .before in
     let start = p .before .before .before .before .before .before .before .before .before .before .before .before in
     let called = rw (p .before .before .before .before .read .ensures, toZ-ofZ w64 (start .args .ts) (start .fits .ts)) at (p .process-hsv .ensures) in
-    told-refused _ _ _ _ _ _ called (refused-keeps _ _ _ _ _ _ _) (omega arith)
+    told-refused _ _ _ _ _ _ called (refused-keeps _ _ _) (omega arith)
 
 pub process-hsv-spec : {M : Type 1} → statement M
 process-hsv-spec =
