@@ -17,6 +17,9 @@ fn main() -> Result<(), Refusal> {
         }
     }
 
+    // a detector can be made only with a library of the wrapper's version
+    assert_eq!(mawerodu::version(), mawerodu::VERSION);
+
     // a refused frame changes nothing
     let before = *detector.state();
     assert_eq!(detector.process_luma(&[0], 2, 1, 2, 0), Err(Refusal(3)));

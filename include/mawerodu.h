@@ -4,11 +4,14 @@
  * The library scores how much each frame differs from the frame before and reports the timestamps of the cuts. The
  * content detector compares a score with a fixed threshold, the adaptive detector with the scores around it.
  *
- * Every function of the library is proved. Whatever its arguments are, a call ends, does nothing undefined and touches
- * no memory but what it is lent. Either it does exactly what the rules say (docs/RULES.md of the source tree), or it
+ * The functions of the library are proved. As long as the caller sees to what is listed below under "Duties of a
+ * caller", a call ends, does nothing undefined and touches no memory but its stack and what it is lent, whatever the
+ * values of its arguments are. Either it does exactly what the rules say (docs/RULES.md of the source tree), or it
  * returns the number of the first refusal that applies and changes nothing; a refused settings call sets the defaults.
- * It allocates nothing, keeps no pointer and has no global data. What a caller has to see to is listed below, under
- * "Duties of a caller".
+ * The library allocates nothing, keeps no pointer and has no global data.
+ *
+ * The inline functions of this header are plain C, and no proof speaks of them: mw_text, mw_cut, mw_score, mw_delta and
+ * those of struct mw_memory.
  *
  * Quick start (this is checked: examples/run of the source tree compiles and runs it):
  *
@@ -112,7 +115,8 @@ uint64_t mw_magnitudes(uint32_t width, uint32_t height);
  *   a frame           15, 1, 2, 3, 4, 5, 12, 13, 14
  *   clear             15
  * A frame or clear that is refused changes nothing: not the state, not the answer, no byte that it is lent. The answer
- * is then still that of an earlier call: do not read it. Settings that are refused make a state with the default
+ * is then still that of an earlier call: do not read it. Only the feed calls, those with a struct mw_memory, empty the
+ * answer first: after a refusal it has no cut and no score. Settings that are refused make a state with the default
  * settings. */
 enum mw_number {
     MW_OK = 0,
@@ -176,20 +180,24 @@ static inline const char *mw_text(uint32_t number)
 
 /* ---- Duties of a caller ----
  *
- * The proofs assume these, and no call can check them.
+ * The proofs assume these, and no call can check them. Memory is the state, the answer, the planes, the store, the
+ * scratch and the magnitudes.
  *   - Pointers: none is NULL, even where its length is 0. Each is aligned for its type, and points to a whole struct or
  *     to at least as many elements as the length after it says. Lengths count elements: bytes, or int32_t's of
  *     magnitudes.
  *   - Overlap: no two of state, answer, store, scratch and magnitudes overlap, nor does one of them overlap a plane.
  *     Planes are only read, and may overlap each other.
- *   - Others: until the call returns, nobody else writes to any of this memory, or reads what the call writes.
- *   - Floating point: results are rounded to nearest, and denormal numbers are neither flushed to zero (FTZ) nor read
- *     as zero (DAZ). A C program starts so, unless gcc or clang link it with -ffast-math. With FTZ or DAZ results may
- *     differ: a weight of 5e-324 beside three of 0 is then refused by 7, and should be accepted.
+ *   - Others: until the call returns, nobody else writes to any of the memory, planes included, or reads what the call
+ *     writes.
+ *   - Floating point: results are rounded to nearest, floating-point exceptions are masked, and denormal numbers are
+ *     neither flushed to zero (FTZ) nor read as zero (DAZ). A C program starts so, unless gcc or clang link it with
+ *     -ffast-math. With FTZ or DAZ results may differ: a weight of 5e-324 beside three of 0 is then refused by 7, and
+ *     should be accepted. An exception that is not masked ends a program that has no handler for it.
  *   - Stack: a frame call takes up to 135 KB (content) or 154 KB (adaptive) if edges are on, else 4 or 23 KB. This is
  *     measured, and not proved.
  *
- * Threads: there is no global data, so calls on different states, with different memory, may run at the same time. */
+ * Threads: there is no global data, so calls on different states may run at the same time, each with an answer, a
+ * store, a scratch and magnitudes of its own. They may read the same planes. */
 
 /* ---- Settings ----
  *
@@ -199,7 +207,8 @@ static inline const char *mw_text(uint32_t number)
  *   setting           default      range, and what it is
  *   threshold         content 27   any but NaN. The score from which on a frame may be a cut
  *                     adaptive 3   any but NaN. The least ratio of a cut; ratios are at most 255
- *   min_duration      1000000      any. The least time from one cut to the next, in microseconds
+ *   min_duration      1000000      any. The least time from one cut to the next, in microseconds; where this holds is
+ *                                  said below, under "Cuts"
  *   window_width      2            1 to 64. How many scores on each side a score is compared with
  *   min_content_val   15           any but NaN. The least score of a cut
  *   hue, saturation,
@@ -210,8 +219,8 @@ static inline const char *mw_text(uint32_t number)
  *                                  any other number: it is kernel_size
  *   kernel_size                    odd, from 3 on, if has_kernel is on. The side of the square to which the edge
  *                                  pixels are widened; by the frame's size it is 7 at 640 x 480, 13 at 1920 x 1080
- *   initial_cut       1            0: the first cut is at least min_duration after the first frame with a score
- *                                  (adaptive: the first that is judged); any other number: that frame may be a cut */
+ *   initial_cut       1            any other number than 0: the first frame with a score (adaptive: the first that is
+ *                                  judged) may be a cut; 0: min_duration is counted from that frame on */
 
 enum mw_filter_mode { MW_MERGE = 0, MW_SUPPRESS = 1 };
 
@@ -239,11 +248,12 @@ uint32_t mw_adaptive_new(struct mw_adaptive *state, double threshold, uint64_t m
 
 /* ---- Scores ----
  *
- * A frame has four planes of a byte for each pixel: hue, saturation, luma and edges. A BGR frame is converted to hue (0
- * to 179, two degrees each), saturation and value; the luma of a BGR or HSV frame is its value, the largest of B, G and
- * R. A luma frame has hue and saturation 0. The edge plane is 255 near an edge and 0 elsewhere; it is made only if the
- * edge weight is not 0. A component is the mean absolute difference, 0 to 255, between one plane of a frame and that of
- * the frame before. With the components h, s, l, e and the weights of the settings, the score of a frame is
+ * A frame has four planes, each with one byte for a pixel: hue, saturation, luma and edges. A BGR frame is converted to
+ * hue (0 to 179, two degrees each), saturation and value, the largest of B, G and R. The luma of a BGR or HSV frame is
+ * its value. A luma frame has hue and saturation 0. The edge plane is 255 near an edge and 0 elsewhere; it is made only
+ * if the edge weight is not 0. A component is the mean absolute difference, 0 to 255, between one plane of a frame and
+ * that of the frame before; it is 0 for edges that are off. With the components h, s, l, e and the weights of the
+ * settings, the score of a frame is
  *
  *     (h * hue + s * saturation + l * luma + e * edges) / (|hue| + |saturation| + |luma| + |edges|)
  *
@@ -265,18 +275,23 @@ uint32_t mw_adaptive_new(struct mw_adaptive *state, double threshold, uint64_t m
  *
  * The timestamp of a cut is that of the first frame of the new clip. A frame is above if its score is at least the
  * threshold. The seed is the timestamp of the first frame with a score in a stretch (adaptive: of the first frame that
- * is judged), less min_duration if initial_cut is on; it stops at -2^63. It stands for the last cut, or for the last
- * frame above, as long as there is none.
+ * is judged after a settings call or clear), less min_duration if initial_cut is on; it stops at -2^63. It stands for
+ * the last cut, or for the last frame above, as long as there is none. A timestamp is at least min_duration after
+ * another if their difference in whole numbers is; nothing wraps.
  *
  * Content, MW_SUPPRESS: a frame above is a cut if it is at least min_duration after the last cut; else it is dropped.
  *
- * Content, MW_MERGE: a frame above is a cut if it is at least min_duration after the last frame above. If it is not,
- * and the stretch has a cut already, it starts a merge. From then on no frame is a cut by itself: each frame above
- * joins the merge. The merge ends at a frame that is not above, at least min_duration after the last frame above, if
- * that last frame above is at least min_duration after the frame that started the merge; the last frame above is then
- * the cut. So this cut has the timestamp of an earlier frame than the one that reports it. A merge that is pending when
- * the film ends, or at a clear or a change of size, is lost: its cut is not reported. At the end of a film, feeding the
- * last frame once more, min_duration later, ends a merge that is long enough.
+ * Content, MW_MERGE: each frame with a score is first held against the last frame above, or the seed: it is late if it
+ * is at least min_duration after that. Then, if it is above, it is itself the last frame above.
+ *   no merge is pending   A frame that is above and late is a cut. One that is above and not late starts a merge, if
+ *                         the stretch has a cut already.
+ *   a merge is pending    A frame that is not above, and late, ends the merge if the last frame above is at least
+ *                         min_duration after the frame that started it, or min_duration is 0. The last frame above is
+ *                         then the cut. No other frame is a cut or ends the merge; frames above join it.
+ * So the cut of a merge has the timestamp of an earlier frame than the one that reports it. A merge that is pending at
+ * the end of the film, at a clear or at a change of size is lost: its cut is not reported. If the threshold is over 0,
+ * the last frame of a film can be fed once more, with a timestamp at least min_duration after the last frame above: its
+ * score is 0, so it is not above and is late, and it ends a merge that is long enough.
  *
  * Adaptive: the window is the last 2 * window_width + 1 scores, and the target is the one in its middle. Once the
  * window is full, each frame with a score judges the target:
@@ -285,12 +300,14 @@ uint32_t mw_adaptive_new(struct mw_adaptive *state, double threshold, uint64_t m
  *            otherwise target / average, at most 255
  *   cut      if the ratio is at least the threshold, the target at least min_content_val, and the target's frame at
  *            least min_duration after the last cut
- * A cut has the timestamp of the target's frame, and is reported window_width scores later. The first window_width
- * frames with a score, and the last window_width frames of a film, are never judged.
+ * A cut has the timestamp of the target's frame, and is reported window_width scores later. Of the frames with a score,
+ * the first and the last window_width from one clear to the next are never judged.
  *
- * Timestamps that fall from one frame to the next: Suppress and the adaptive detector keep cuts min_duration apart all
- * the same, so after a clock was set back there is no cut until it has passed the last cut by min_duration. Merge does
- * not: there a cut may be nearer than min_duration to the cut before, or earlier. After a clock was set back, clear. */
+ * Where cuts are min_duration apart: in Suppress within each stretch; in the adaptive detector from one clear to the
+ * next, over changes of size too; both whatever the timestamps are, so after a clock was set back no frame is a cut
+ * until its timestamp is min_duration after the last cut. In Merge within each stretch in which the timestamps of the
+ * frames with a score never fall; where they fall, a cut may be nearer to the cut before, or earlier. After a clock was
+ * set back, clear. */
 
 /* ---- Frames ----
  *
@@ -299,7 +316,7 @@ uint32_t mw_adaptive_new(struct mw_adaptive *state, double threshold, uint64_t m
  * of 0 to 179 (a larger one is taken as it is). A width or height of 0 is accepted: no pixels, all components 0. ts is
  * the timestamp in microseconds.
  *
- * With struct mw_memory (below) a call has eight arguments; for HSV ten. */
+ * The calls with a struct mw_memory (below) take eight arguments, for HSV ten. */
 
 uint32_t mw_content_luma(struct mw_content *state, struct mw_answer *answer, const uint8_t *plane, size_t plane_len,
                          uint32_t width, uint32_t height, uint32_t stride, int64_t ts, uint8_t *store, size_t store_len,
@@ -359,8 +376,9 @@ static inline double mw_delta(const struct mw_answer *answer, uint32_t place)
 }
 
 /* Of a state, as the last accepted call left it: score and components of the last frame; in the adaptive detector also
- * ratio and score of the last target. Each has_ function returns 1 or 0, and the value is 0.0 where there is none. They
- * refuse nothing; in words that are not a state there is none of these. */
+ * ratio and score of the last target. Each has_ function returns 1 or 0, and the value is 0.0 where there is none. The
+ * place of a component is 0 for hue, 1 for saturation, 2 for luma, 3 for edges; any other place gives 0.0. Readers
+ * refuse nothing; words that are not a state (the first list at the end of this file) have none of these. */
 uint32_t mw_content_has_score(const struct mw_content *state);
 double mw_content_score(const struct mw_content *state);
 uint32_t mw_content_has_components(const struct mw_content *state);
@@ -389,8 +407,9 @@ struct mw_memory {
     size_t magnitudes_len;
 };
 
-/* Frees what mw_memory_init allocated, and leaves it empty: it may be freed again, and a frame that is fed to it is
- * refused by 12. */
+/* Frees what mw_memory_init allocated, and leaves it empty: NULL, and lengths of 0. It may be freed again. A frame that
+ * is fed to it is judged by the library as with memory of length 0: a frame with pixels is refused, by 12 if by nothing
+ * before. */
 static inline void mw_memory_free(struct mw_memory *memory)
 {
     free(memory->store);
@@ -423,81 +442,100 @@ static inline int mw_memory_init(struct mw_memory *memory, uint32_t width, uint3
     return 1;
 }
 
-/* Used by the calls below: empties the answer, and says whether there is memory. */
-static inline int mw_memory_ready(struct mw_memory *memory)
+/* For the feed calls alone: what a frame call takes after its timestamp, and places to point to instead of NULL. */
+struct mw_lent {
+    uint8_t *store;
+    uint8_t *scratch;
+    int32_t *magnitudes;
+    size_t store_len;
+    size_t scratch_len;
+    size_t magnitudes_len;
+    uint8_t no_store;
+    uint8_t no_scratch;
+    int32_t no_magnitudes;
+};
+#define MW_LENT(lent) \
+    (lent).store, (lent).store_len, (lent).scratch, (lent).scratch_len, (lent).magnitudes, (lent).magnitudes_len
+
+/* For the feed calls alone: empties the answer and lends the memory. What is NULL is lent as a place of *lent with a
+ * length of 0, so that the library decides the number. */
+static inline void mw_memory_lend(struct mw_memory *memory, struct mw_lent *lent)
 {
     memset(&memory->answer, 0, sizeof memory->answer);
-    return memory->store != NULL && memory->scratch != NULL && memory->magnitudes != NULL;
+    memset(lent, 0, sizeof *lent);
+    lent->store = memory->store != NULL ? memory->store : &lent->no_store;
+    lent->store_len = memory->store != NULL ? memory->store_len : 0;
+    lent->scratch = memory->scratch != NULL ? memory->scratch : &lent->no_scratch;
+    lent->scratch_len = memory->scratch != NULL ? memory->scratch_len : 0;
+    lent->magnitudes = memory->magnitudes != NULL ? memory->magnitudes : &lent->no_magnitudes;
+    lent->magnitudes_len = memory->magnitudes != NULL ? memory->magnitudes_len : 0;
 }
 
-/* What a frame call takes after its timestamp. */
-#define MW_LENT(memory) \
-    (memory)->store, (memory)->store_len, (memory)->scratch, (memory)->scratch_len, (memory)->magnitudes, \
-        (memory)->magnitudes_len
-
-/* The frame calls, with memory->answer for the answer. The three planes of an HSV frame have plane_len bytes each. */
+/* The feed calls: the frame calls, with memory->answer for the answer, which they empty first. The three planes of an
+ * HSV frame have plane_len bytes each. */
 
 static inline uint32_t mw_content_feed_luma(struct mw_content *state, struct mw_memory *memory, const uint8_t *plane,
                                             size_t plane_len, uint32_t width, uint32_t height, uint32_t stride,
                                             int64_t ts)
 {
-    if (!mw_memory_ready(memory))
-        return MW_STORE_SHORT;
-    return mw_content_luma(state, &memory->answer, plane, plane_len, width, height, stride, ts, MW_LENT(memory));
+    struct mw_lent lent;
+    mw_memory_lend(memory, &lent);
+    return mw_content_luma(state, &memory->answer, plane, plane_len, width, height, stride, ts, MW_LENT(lent));
 }
 
 static inline uint32_t mw_content_feed_bgr(struct mw_content *state, struct mw_memory *memory, const uint8_t *pixels,
                                            size_t pixels_len, uint32_t width, uint32_t height, uint32_t stride,
                                            int64_t ts)
 {
-    if (!mw_memory_ready(memory))
-        return MW_STORE_SHORT;
-    return mw_content_bgr(state, &memory->answer, pixels, pixels_len, width, height, stride, ts, MW_LENT(memory));
+    struct mw_lent lent;
+    mw_memory_lend(memory, &lent);
+    return mw_content_bgr(state, &memory->answer, pixels, pixels_len, width, height, stride, ts, MW_LENT(lent));
 }
 
 static inline uint32_t mw_content_feed_hsv(struct mw_content *state, struct mw_memory *memory, const uint8_t *hue,
                                            const uint8_t *saturation, const uint8_t *value, size_t plane_len,
                                            uint32_t width, uint32_t height, uint32_t stride, int64_t ts)
 {
-    if (!mw_memory_ready(memory))
-        return MW_STORE_SHORT;
+    struct mw_lent lent;
+    mw_memory_lend(memory, &lent);
     return mw_content_hsv(state, &memory->answer, hue, plane_len, saturation, plane_len, value, plane_len, width,
-                          height, stride, ts, MW_LENT(memory));
+                          height, stride, ts, MW_LENT(lent));
 }
 
 static inline uint32_t mw_adaptive_feed_luma(struct mw_adaptive *state, struct mw_memory *memory,
                                              const uint8_t *plane, size_t plane_len, uint32_t width, uint32_t height,
                                              uint32_t stride, int64_t ts)
 {
-    if (!mw_memory_ready(memory))
-        return MW_STORE_SHORT;
-    return mw_adaptive_luma(state, &memory->answer, plane, plane_len, width, height, stride, ts, MW_LENT(memory));
+    struct mw_lent lent;
+    mw_memory_lend(memory, &lent);
+    return mw_adaptive_luma(state, &memory->answer, plane, plane_len, width, height, stride, ts, MW_LENT(lent));
 }
 
 static inline uint32_t mw_adaptive_feed_bgr(struct mw_adaptive *state, struct mw_memory *memory,
                                             const uint8_t *pixels, size_t pixels_len, uint32_t width, uint32_t height,
                                             uint32_t stride, int64_t ts)
 {
-    if (!mw_memory_ready(memory))
-        return MW_STORE_SHORT;
-    return mw_adaptive_bgr(state, &memory->answer, pixels, pixels_len, width, height, stride, ts, MW_LENT(memory));
+    struct mw_lent lent;
+    mw_memory_lend(memory, &lent);
+    return mw_adaptive_bgr(state, &memory->answer, pixels, pixels_len, width, height, stride, ts, MW_LENT(lent));
 }
 
 static inline uint32_t mw_adaptive_feed_hsv(struct mw_adaptive *state, struct mw_memory *memory, const uint8_t *hue,
                                             const uint8_t *saturation, const uint8_t *value, size_t plane_len,
                                             uint32_t width, uint32_t height, uint32_t stride, int64_t ts)
 {
-    if (!mw_memory_ready(memory))
-        return MW_STORE_SHORT;
+    struct mw_lent lent;
+    mw_memory_lend(memory, &lent);
     return mw_adaptive_hsv(state, &memory->answer, hue, plane_len, saturation, plane_len, value, plane_len, width,
-                           height, stride, ts, MW_LENT(memory));
+                           height, stride, ts, MW_LENT(lent));
 }
 
 /* ---- Layout of the words ----
  *
  * For those who look into a state or keep it in a file; a program that calls the functions above does not need it. One
- * word for each field: a double as its bits, a timestamp in two's complement. A `has` is 0 or 1, and what follows a
- * `has` of 0 is written as 0.
+ * word for each field: a double as its bits (a NaN, of which there is none in a state that a run of calls made, is
+ * written as 0x7ff8000000000000), a timestamp in two's complement. A `has` is 0 or 1; what follows a `has` of 0 is
+ * written as 0, and is not looked at.
  *
  *   answer
  *     0, 1             has, timestamp of the cut
@@ -529,10 +567,10 @@ static inline uint32_t mw_adaptive_feed_hsv(struct mw_adaptive *state, struct mw
  *       -   30-158     timestamps of the window, the oldest first; places past the number of scores are not used
  *       -  159-287     scores of the window, in the same order
  *
- * 15 is returned for words that are not a state: another version, a `has`, a 0-or-1 field or filter_mode that is over
- * 1, a window_width, kernel_size, width or height over 2^32 - 1. And for a state that no run of calls can make:
- * settings that would be refused, a width or height over 4,096, more than 2 * window_width + 1 scores in the window, a
- * merge that is pending without a start or a last frame above. */
+ * 15 is returned for words that are not a state: another version; a `has`, a 0-or-1 field or filter_mode that is over
+ * 1; a window_width, width or height over 2^32 - 1; a kernel_size over 2^32 - 1 whose `has` is 1. And for a state with
+ * one of these, which no run of calls makes: settings that would be refused, a width or height over 4,096, more than
+ * 2 * window_width + 1 scores in the window, a merge that is pending without a start or a last frame above. */
 
 #ifdef __cplusplus
 }

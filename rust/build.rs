@@ -1,8 +1,15 @@
-//! Finds the archive libstation.a and has cargo link it. It looks in these folders, and takes the first that has it:
+//! Finds the archive libstation.a and has cargo link it. If the environment variable MAWERODU_LIB_DIR is set and not
+//! empty, it looks in that folder (give a full path) and nowhere else. Otherwise it takes the first of these that has
+//! the archive:
 //!
-//! 1. the folder in MAWERODU_LIB_DIR (a full path); where that is set, no other is looked at
-//! 2. `../target/staticlib`, where `rt staticlib station` writes it
-//! 3. `lib` below the folder in PREFIX, below `~/.local`, `/usr/local` and `/usr`, where `./install` puts it
+//! 1. `target/staticlib` of the source tree that this crate is in, where `.ci/built station` puts it
+//! 2. `$PREFIX/lib`, if PREFIX is set and not empty
+//! 3. `$HOME/.local/lib`, if HOME is set and not empty
+//! 4. `/usr/local/lib`
+//! 5. `/usr/lib`
+//!
+//! So an archive that `./install` put below another folder is found by MAWERODU_LIB_DIR or PREFIX alone, and one in the
+//! source tree comes before one that is installed.
 use std::env;
 use std::path::PathBuf;
 use std::process::exit;

@@ -21,8 +21,12 @@
 //! that is refused returns a [`Refusal`] and changes nothing: the stream goes on as if the call had not been made.
 //! Different threads may use different detectors at the same time.
 //!
-//! Link `libstation.a`, which `rt staticlib station` writes to `target/staticlib`. No other crate is needed. The library
-//! assumes the floating-point environment that Rust assumes: rounding to nearest, no flush to zero.
+//! No other crate is needed, only the archive `libstation.a`, of the same version up to the patch number (see
+//! [`VERSION`]). With cargo, `build.rs` finds it and has it linked; it says where it looks. With `rustc` alone, hand it
+//! to the linker: `-C link-arg=target/staticlib/libstation.a`, which is where `.ci/built station` puts it.
+//!
+//! The library assumes the floating-point environment that Rust assumes: rounding to nearest, exceptions masked, no
+//! flush to zero. It is proved; this wrapper is plain Rust, and no proof speaks of it.
 //!
 //! # Scores
 //!
@@ -39,7 +43,8 @@
 //! luma difference, and a threshold of 27 is reached at a luma difference of 81.
 //! [`Components::LUMA_ONLY_WEIGHTS`] make the score the luma difference itself.
 //!
-//! The edge plane is computed only if the weight of edges is not zero. It is empty if a side of the frame is below 3.
+//! The edge plane is computed only if the weight of edges is not zero. It has no edges if a side of the frame is below
+//! 3.
 //!
 //! # Frames without a score
 //!
@@ -53,11 +58,13 @@
 //! window, last cut, ratio and target, so that scores from before and after the change are judged together; only
 //! `clear` drops them.
 //!
-//! # Timestamps that fall
+//! # Where cuts are `min_duration` apart
 //!
-//! Timestamps may have any value, but should not fall from one frame to the next. If they do, the adaptive detector
-//! and [`FilterMode::Suppress`] still keep cuts `min_duration` apart, and a frame earlier than the last cut is not a
-//! cut. [`FilterMode::Merge`] does not: a cut can then be closer to the one before, or even earlier.
+//! A stretch is a run of frames of one size, up to the next `clear`. Within each stretch [`FilterMode::Suppress`] keeps
+//! cuts `min_duration` apart. The adaptive detector does so from one `clear` to the next, over changes of size too.
+//! Both do it whatever the timestamps are: if these fall, a frame earlier than the last cut is not a cut.
+//! [`FilterMode::Merge`] does it within each stretch in which the timestamps of the frames with a score never fall; if
+//! they do, a cut can be closer to the one before, or even earlier. So after a clock was set back, `clear`.
 #![warn(missing_docs)]
 
 use std::fmt;
@@ -201,6 +208,10 @@ pub mod sys {
     }
 }
 
+/// The version of this wrapper: major, minor, patch. A library whose major and minor number are these has the functions
+/// that `sys` declares. Each constructor of a detector checks that, and panics if the linked library is another.
+pub const VERSION: (u32, u32, u32) = (0, 2, 0);
+
 /// The version of the library that is linked: major, minor, patch.
 pub fn version() -> (u32, u32, u32) {
     // SAFETY: it takes nothing and returns a number.
@@ -296,16 +307,20 @@ pub enum FilterMode {
     /// at its end.
     ///
     /// A frame above is a cut if it comes `min_duration` or more after the last frame above. Otherwise, once there was
-    /// a cut, it starts a merge. The merge takes in all frames above that follow. It ends at a frame that is not above,
-    /// `min_duration` or more after the last frame above, if the frames above of the merge span `min_duration`; the
-    /// last of them is then the cut.
+    /// a cut since the last `clear` or change of size, it starts a merge. The merge takes in all frames above that
+    /// follow. It ends at a frame that is not above, `min_duration` or more after the last frame above, if that one is
+    /// `min_duration` or more after the frame that started the merge, or if `min_duration` is 0; the last frame above
+    /// is then the cut.
     ///
-    /// So this cut is reported late, with the timestamp of an earlier frame. A merge that spans less than
-    /// `min_duration` stays pending, and a frame above joins it however much later it comes. A merge that is pending at
-    /// the end of the stream, at a `clear` or at a change of size is lost: its cut is never reported.
+    /// So this cut is reported late, with the timestamp of an earlier frame. A merge that is too short to end stays
+    /// pending, and a frame above joins it however much later it comes. A merge that is pending at the end of the
+    /// stream, at a `clear` or at a change of size is lost: its cut is never reported.
+    ///
+    /// As long as there was no frame above, `min_duration` is counted from where `initial_cut` says.
     Merge,
     /// A frame above is a cut if it comes `min_duration` or more after the last cut. Other frames above are dropped. A
-    /// cut is reported with its own frame.
+    /// cut is reported with its own frame. As long as there was no cut, `min_duration` is counted from where
+    /// `initial_cut` says.
     Suppress,
 }
 
@@ -314,7 +329,8 @@ pub enum FilterMode {
 pub struct ContentOptions {
     /// A frame with at least this score is above the threshold. Any number but NaN; 27 by default.
     pub threshold: f64,
-    /// The least time from one cut to the next, in microseconds; 1,000,000 by default.
+    /// The least time from one cut to the next, in microseconds; 1,000,000 by default. The crate's documentation says
+    /// where it holds.
     pub min_duration: u64,
     /// How much each component counts in the score. Each weight is finite, at most 2^20 in size, and may be negative;
     /// not all are zero. [`Components::DEFAULT_WEIGHTS`] by default.
@@ -324,8 +340,8 @@ pub struct ContentOptions {
     /// The side of the square by which edges are widened: an odd number from 3 on, or `None` (the default) to choose it
     /// by the frame's size.
     pub kernel_size: Option<u32>,
-    /// Whether the first frame that has a score may be a cut (the default). If not, the first cut comes at least
-    /// `min_duration` after that frame. This applies anew after `clear` and after a change of size.
+    /// Whether the first frame that has a score may be a cut (the default). If not, `min_duration` is counted from that
+    /// frame; if so, from a time `min_duration` before it. This applies anew after `clear` and after a change of size.
     pub initial_cut: bool,
 }
 
@@ -348,7 +364,8 @@ pub struct AdaptiveOptions {
     /// A frame whose score has at least this ratio to the average of the scores around it may be a cut. Any number but
     /// NaN; 3 by default.
     pub threshold: f64,
-    /// The least time from one cut to the next, in microseconds; 1,000,000 by default.
+    /// The least time from one cut to the next, in microseconds; 1,000,000 by default. The crate's documentation says
+    /// where it holds.
     pub min_duration: u64,
     /// How many scores on each side a frame's score is compared with, 1 to 64; 2 by default.
     pub window_width: u32,
@@ -360,8 +377,8 @@ pub struct AdaptiveOptions {
     /// The side of the square by which edges are widened: an odd number from 3 on, or `None` (the default) to choose it
     /// by the frame's size.
     pub kernel_size: Option<u32>,
-    /// Whether the first frame that is judged may be a cut (the default). If not, the first cut comes at least
-    /// `min_duration` after that frame. This applies anew after `clear`.
+    /// Whether the first frame that is judged may be a cut (the default). If not, `min_duration` is counted from that
+    /// frame; if so, from a time `min_duration` before it. This applies anew after `clear`.
     pub initial_cut: bool,
 }
 
@@ -437,9 +454,12 @@ fn answer_of(w: &sys::Answer) -> Answer {
     }
 }
 
-/// Words for a state, once the library's states and answers are known to have as many words as here: a library of
-/// another layout would write past them.
+/// Words for a state, once the library is known to have the functions that `sys` declares, and states and answers of as
+/// many words as here: another one would take other arguments, or write past the words. The numbers of words alone do
+/// not tell; they were the same in 0.1.0.
 fn blank<const N: usize>(library: u64) -> [u64; N] {
+    let (major, minor, _) = version();
+    assert_eq!((major, minor), (VERSION.0, VERSION.1), "the linked library has another version than this wrapper");
     // SAFETY: it takes nothing and returns a number.
     let answer = unsafe { sys::mw_answer_words() };
     let here = (N as u64, sys::ANSWER_WORDS as u64);
@@ -447,13 +467,14 @@ fn blank<const N: usize>(library: u64) -> [u64; N] {
     [0; N]
 }
 
-// SAFETY of the calls in a detector: state and answer have as many words as the library's, which `blank` checked; every
-// other pointer and length are those of a slice or a vector; each lives through the call, and what is written overlaps
-// nothing else.
+// SAFETY of the calls in a detector: `blank` checked that the library has these functions, and that its states and
+// answers have as many words as here; every other pointer and length are those of a slice or a vector; each lives
+// through the call, and what is written overlaps nothing else and is used by nobody else.
 macro_rules! detector {
     ($name:ident, $state:ident, $words:ident, $default:ident, $luma:ident, $bgr:ident, $hsv:ident, $clear:ident, $has_score:ident, $score:ident, $has_components:ident, $component:ident) => {
         impl $name {
-            /// A detector with the default settings.
+            /// A detector with the default settings. It panics if the linked library has another version than
+            /// [`VERSION`], the patch number aside; so do the other constructors.
             pub fn new() -> Self {
                 let mut state = blank(unsafe { sys::$words() });
                 let number = unsafe { sys::$default(&mut state) };
@@ -620,7 +641,9 @@ macro_rules! detector {
     };
 }
 
-/// Reports a cut where a frame's score reaches the threshold, at most one in `min_duration` as [`FilterMode`] says.
+/// Reports cuts at frames whose score reaches the threshold, kept `min_duration` apart as [`FilterMode`] says: from one
+/// `clear` or change of size to the next, and with [`FilterMode::Merge`] only if the timestamps of the frames with a
+/// score do not fall in between.
 #[derive(Clone)]
 pub struct ContentDetector {
     state: sys::ContentState,
@@ -676,7 +699,8 @@ impl ContentDetector {
 /// ratio is 255 if the score is at least `min_content_val`, and 0 if not. The target is a cut if its ratio is at least
 /// the threshold, its score at least `min_content_val`, and its timestamp `min_duration` or more after the last cut.
 ///
-/// The first and the last `window_width` scored frames of a stream are never judged, so no cut is reported there.
+/// Of the frames with a score, the first and the last `window_width` from one `clear` to the next are never judged, so
+/// none of them is reported as a cut. Cuts are `min_duration` apart from one `clear` to the next.
 #[derive(Clone)]
 pub struct AdaptiveDetector {
     state: sys::AdaptiveState,

@@ -19,16 +19,20 @@ pub fn rows() -> Vec<Row> {
     vec![sizes(), content, adaptive, order, sides]
 }
 
-/// The version that rust/lib.rs declares functions for.
-const VERSION: u32 = 2 << 8;
+/// The version in the file VERSION, as one number: major << 16 | minor << 8 | patch.
+fn version() -> u64 {
+    let parts = include_str!("../../VERSION").trim().split('.').map(|part| part.parse::<u64>().expect("a number"));
+    parts.fold(0, |number, part| number << 8 | part)
+}
 
 fn sizes() -> Row {
     let mut row = Row::by_rules("version, words and sizes");
     let mut constant = |name: &str, expected: u64, found: u64| row.compare(0, || name.to_string(), expected, found);
+    let one = |(major, minor, patch): (u32, u32, u32)| (major << 16 | minor << 8 | patch) as u64;
     unsafe {
-        constant("version", VERSION as u64, c::mw_version() as u64);
-        let (major, minor, patch) = mawerodu::version();
-        constant("version by the wrapper", VERSION as u64, (major << 16 | minor << 8 | patch) as u64);
+        constant("version", version(), c::mw_version() as u64);
+        constant("version by the wrapper", version(), one(mawerodu::version()));
+        constant("version of the wrapper", version(), one(mawerodu::VERSION));
         constant("words of a content state", CONTENT_WORDS as u64, c::mw_content_words());
         constant("words of an adaptive state", ADAPTIVE_WORDS as u64, c::mw_adaptive_words());
         constant("words of an answer", ANSWER_WORDS as u64, c::mw_answer_words());

@@ -133,7 +133,7 @@ fn cleared<const N: usize>(
     row.compare(0, input, (number, &words[..], true), (found, after.words(), kept));
 }
 
-/// The words after an accepted frame are compared with one pattern for NaN.
+/// The words after an accepted frame have one pattern for every NaN, also for one that was in the state with another.
 fn called<const N: usize>(
     row: &mut Row,
     functions: &Functions<N>,
@@ -150,7 +150,7 @@ fn called<const N: usize>(
     let expected = match judged {
         Judged::Good => {
             let after = pixel::luma(layout, given.words(), LUMA, STAMP, store(given));
-            (0, After { state: layout.plain(&after.state), ..after }, true)
+            (0, After { state: layout.written(&after.state), ..after }, true)
         }
         _ => {
             let (state, answer) = (given.words().to_vec(), given.answer().to_vec());
@@ -158,14 +158,14 @@ fn called<const N: usize>(
         }
     };
     let kept = if found == 0 { after.behind_kept(given, lent) } else { after == *given };
-    let state = if found == 0 { layout.plain(after.words()) } else { after.words().to_vec() };
-    let shown = After { state, answer: after.answer().to_vec(), store: store(&after) };
+    let shown = After { state: after.words().to_vec(), answer: after.answer().to_vec(), store: store(&after) };
     row.compare(0, input, expected, (found, shown, kept && after.guarded()));
 }
 
-/// The bits of a double, with one pattern for NaN.
+/// The bits of a double, with one pattern for NaN: a reader returns a double and not a word, and which NaN it returns
+/// is left open.
 fn bits(x: f64) -> u64 {
-    if x.is_nan() { f64::NAN.to_bits() } else { x.to_bits() }
+    if x.is_nan() { rules::NAN } else { x.to_bits() }
 }
 
 fn read<const N: usize>(

@@ -93,10 +93,11 @@ pub struct Layout {
     /// The words of the stream come after those of the settings: whether there is a previous frame; has, last score;
     /// has the last components, and the four; width, height. Those of the filter or of the window follow.
     pub stream: usize,
-    /// Words that are 0 or 1, and words of 32 bits.
+    /// Words that are 0 or 1, and words of 32 bits. The kernel's size is one of these where it is set; else it is not
+    /// looked at.
     flags: &'static [usize],
     halves: &'static [usize],
-    /// Words that hold a double that a call can write: it may be a NaN, of any pattern.
+    /// Words that hold a double, those of the settings aside, which a call accepts only if they are not a NaN.
     doubles: fn(usize) -> bool,
 }
 
@@ -105,7 +106,7 @@ pub const CONTENT: Layout = Layout {
     words: 27,
     stream: 11,
     flags: &[7, 8, 10, 11, 12, 14, 21, 23, 24, 25],
-    halves: &[9, 19, 20],
+    halves: &[19, 20],
     doubles: |place| matches!(place, 13 | 15..=18),
 };
 
@@ -114,7 +115,7 @@ pub const ADAPTIVE: Layout = Layout {
     words: 288,
     stream: 12,
     flags: &[9, 11, 12, 13, 15, 24, 26, 28],
-    halves: &[3, 10, 20, 21],
+    halves: &[3, 20, 21],
     doubles: |place| matches!(place, 14 | 16..=19 | 23 | 27 | 29 | 159..=287),
 };
 
@@ -132,6 +133,11 @@ impl Layout {
         self.stream + 8
     }
 
+    /// Whether there is a kernel's size; the size follows.
+    pub fn kernel(&self) -> usize {
+        self.stream - 3
+    }
+
     /// The settings in the words of a record.
     pub fn settings(&self, words: &[u64]) -> Settings {
         let double = |place: usize| f64::from_bits(words[place]);
@@ -140,7 +146,7 @@ impl Layout {
         } else {
             (5, Own::Adaptive { window_width: words[3] as u32, min_content_val: double(4) })
         };
-        let kernel = self.stream - 3;
+        let kernel = self.kernel();
         Settings {
             threshold: double(1),
             min_duration: words[2],
@@ -154,7 +160,8 @@ impl Layout {
 
     pub fn judged(&self, words: &[u64]) -> Judged {
         let over = |places: &[usize], most: u64| places.iter().any(|&place| words[place] > most);
-        if words[0] != self.version || over(self.flags, 1) || over(self.halves, u32::MAX as u64) {
+        let long_kernel = words[self.kernel()] == 1 && words[self.kernel() + 1] > u32::MAX as u64;
+        if words[0] != self.version || over(self.flags, 1) || over(self.halves, u32::MAX as u64) || long_kernel {
             return Judged::NoRecord;
         }
         let settings = self.settings(words);
@@ -172,15 +179,18 @@ impl Layout {
         self.settings(words).fresh(words[self.width()], words[self.width() + 1])
     }
 
-    /// The same words with one pattern for NaN: which one a call writes is left open.
-    pub fn plain(&self, words: &[u64]) -> Vec<u64> {
-        let plain = |(place, &word): (usize, &u64)| match f64::from_bits(word).is_nan() && (self.doubles)(place) {
-            true => f64::NAN.to_bits(),
+    /// The same words as a call writes them: every NaN has one pattern.
+    pub fn written(&self, words: &[u64]) -> Vec<u64> {
+        let written = |(place, &word): (usize, &u64)| match f64::from_bits(word).is_nan() && (self.doubles)(place) {
+            true => NAN,
             false => word,
         };
-        words.iter().enumerate().map(plain).collect()
+        words.iter().enumerate().map(written).collect()
     }
 }
+
+/// The word of a NaN (RULES 15.2).
+pub const NAN: u64 = 0x7ff8_0000_0000_0000;
 
 /// The memory that a frame of this size needs: bytes of store and scratch, and magnitudes.
 pub fn memory(width: u32, height: u32) -> [u64; 3] {

@@ -340,7 +340,7 @@ impl<const N: usize> Station<N> {
     }
 
     /// The same with a state that is refused: another version, a NaN threshold, a side of 4,097, a flag of 2, a kernel
-    /// size beyond 32 bits.
+    /// that is set to a size beyond 32 bits.
     fn broken(&self, functions: &Functions<N>, how: u8) -> Self {
         let mut bad = self.clone();
         let words = bad.words_mut();
@@ -349,7 +349,7 @@ impl<const N: usize> Station<N> {
             1 => words[1] = f64::NAN.to_bits(),
             2 => words[functions.options + 8] = 4097,
             3 => words[functions.options] = 2,
-            _ => words[functions.options - 2] = 1 << 32,
+            _ => (words[functions.options - 3], words[functions.options - 2]) = (1, 1 << 32),
         }
         bad
     }

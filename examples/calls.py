@@ -1,0 +1,406 @@
+#!/usr/bin/env python3
+"""Prints what examples/calls.c must print: calls_c.stdout is its output.
+
+This is a small model of docs/RULES.md and of the layout of words in include/mawerodu.h, in plain Python. It is written from
+these two texts and not from the proved code, and it does not call the library. Pictures, settings and calls are those of
+calls.c, in the same order; a rule is named where it is used. Floats are those of Python, which are doubles.
+"""
+import struct
+from fractions import Fraction
+
+WIDTH, HEIGHT = 12, 9
+STRIDES = {"luma": 13, "bgr": 40, "hsv": 15}
+
+# kind, timestamp, the colour around a block and the colour of the block, its left, top, right and bottom
+FILM = [
+    ("hsv", 1000000, (20, 60, 90), (50, 110, 200), 2, 2, 6, 6),
+    ("hsv", 1100000, (90, 80, 150), (20, 200, 60), 5, 1, 10, 5),
+    ("bgr", 1300000, (10, 60, 120), (200, 180, 40), 1, 3, 7, 8),
+    ("luma", 1500000, (70, 0, 0), (180, 0, 0), 3, 2, 9, 6),
+    ("luma", 1700000, (160, 0, 0), (20, 0, 0), 2, 4, 6, 7),
+    ("luma", 1800000, (161, 0, 0), (22, 0, 0), 2, 4, 6, 7),
+    ("luma", 2100000, (160, 0, 0), (23, 0, 0), 2, 4, 6, 7),
+    ("hsv", 2500000, (120, 40, 30), (10, 90, 240), 6, 2, 11, 7),
+    ("hsv", 2600000, (121, 43, 35), (10, 90, 240), 6, 2, 11, 7),
+    ("bgr", 3000000, (90, 200, 30), (30, 20, 220), 4, 1, 8, 8),
+]
+
+
+# ---- planes (RULES 2.7, 3) ----
+
+def rounded(x):
+    return (x + Fraction(1, 2)).__floor__()
+
+
+def hsv_of(b, g, r):
+    v, d = max(b, g, r), max(b, g, r) - min(b, g, r)
+    saturation = Fraction(255 * d, v) if v else Fraction(0)
+    if d == 0:
+        degrees = Fraction(0)
+    elif v == r:
+        degrees = Fraction(60 * (g - b), d)
+        degrees += 360 if degrees < 0 else 0
+    elif v == g:
+        degrees = Fraction(60 * (b - r), d) + 120
+    else:
+        degrees = Fraction(60 * (r - g), d) + 240
+    return min(rounded(degrees / 2), 179), rounded(saturation), v
+
+
+def planes_of(picture):
+    kind, _, back, block, left, top, right, bottom = picture
+    colours = []
+    for y in range(HEIGHT):
+        for x in range(WIDTH):
+            colour = block if left <= x < right and top <= y < bottom else back
+            colours.append({"luma": (0, 0, colour[0]), "bgr": hsv_of(*colour), "hsv": colour}[kind])
+    return [[colour[i] for colour in colours] for i in range(3)]
+
+
+# ---- edges (RULES 5) ----
+
+def edge_plane(luma, kernel):
+    n = WIDTH * HEIGHT
+    at = lambda x, y: luma[y * WIDTH + x]
+    median = sorted(luma)[n // 2]
+    low = (2 * median - 1) // 3 if median else 0
+    high = min(255, 4 * median // 3)
+    magnitude, direction = {}, {}
+    for y in range(HEIGHT):
+        for x in range(WIDTH):
+            if not (0 < x < WIDTH - 1 and 0 < y < HEIGHT - 1):
+                magnitude[x, y], direction[x, y] = 0, 0
+                continue
+            weights = (1, 2, 1)
+            gx = sum(w * (at(x + 1, y + i) - at(x - 1, y + i)) for i, w in zip((-1, 0, 1), weights))
+            gy = sum(w * (at(x + i, y + 1) - at(x + i, y - 1)) for i, w in zip((-1, 0, 1), weights))
+            sign = lambda z: (z > 0) - (z < 0)
+            magnitude[x, y] = abs(gx) + abs(gy)
+            if 1000 * abs(gy) < 414 * abs(gx):
+                direction[x, y] = 0
+            elif 1000 * abs(gy) > 2414 * abs(gx):
+                direction[x, y] = 2
+            else:
+                direction[x, y] = 1 if sign(gx) == sign(gy) else 3
+    strong, weak = set(), set()
+    for y in range(1, HEIGHT - 1):
+        for x in range(1, WIDTH - 1):
+            dx, dy = ((1, 0), (1, 1), (0, 1), (1, -1))[direction[x, y]]
+            here = magnitude[x, y]
+            if here > 0 and here >= magnitude[x + dx, y + dy] and here >= magnitude[x - dx, y - dy]:
+                if here >= high:
+                    strong.add((x, y))
+                elif here >= low:
+                    weak.add((x, y))
+    places = [(x, y) for y in range(HEIGHT) for x in range(WIDTH)]
+    for _ in range(2):
+        for order, beside in ((places, ((-1, -1), (0, -1), (1, -1), (-1, 0))),
+                              (places[::-1], ((1, 1), (0, 1), (-1, 1), (1, 0)))):
+            for x, y in order:
+                if (x, y) in weak and any((x + dx, y + dy) in strong for dx, dy in beside):
+                    weak.remove((x, y))
+                    strong.add((x, y))
+    reach = kernel // 2
+    return [255 if any(abs(sx - x) <= reach and abs(sy - y) <= reach for sx, sy in strong) else 0 for x, y in places]
+
+
+def auto_kernel():
+    d = 0
+    while (96 * (2 * (d + 1) - 1)) ** 2 <= WIDTH * HEIGHT:
+        d += 1
+    return 4 + d + (4 + d + 1) % 2
+
+
+# ---- words ----
+
+def bits(x):
+    return struct.unpack("<Q", struct.pack("<d", x))[0]
+
+
+def stamp(ts):
+    return ts % 2 ** 64
+
+
+def maybe(x, word):
+    return [0, 0] if x is None else [1, word(x)]
+
+
+def shown(words):
+    return " ".join(f"{place}:{word:x}" for place, word in enumerate(words) if word)
+
+
+def number(x):
+    return "%.17g" % x
+
+
+# ---- detectors (RULES 6 to 9) ----
+
+class Detector:
+    def __init__(self, threshold, min_duration, weights, kernel, initial_cut):
+        self.threshold, self.min_duration, self.weights = threshold, min_duration, weights
+        self.kernel, self.initial_cut = kernel, initial_cut
+        self.width = self.height = 0
+        self.fill = 0
+        self.clear()
+
+    def clear(self):
+        self.previous = self.score = self.deltas = None
+
+    def store(self, picture):
+        """The planes after a frame; with edges off the last one stays as it was before the first."""
+        planes = planes_of(picture)
+        if self.weights[3]:
+            return planes + [edge_plane(planes[2], self.kernel or auto_kernel())]
+        return planes + [[self.fill] * (WIDTH * HEIGHT)]
+
+    def frame(self, picture):
+        """The cut, the score and the components of a frame of WIDTH x HEIGHT."""
+        planes = self.store(picture)
+        before, self.previous = self.previous, planes
+        self.width, self.height = WIDTH, HEIGHT
+        if before is None:
+            self.score = self.deltas = None
+            self.unscored()
+            return None, None, [0.0] * 4
+        n = WIDTH * HEIGHT
+        self.deltas = [sum(abs(a - b) for a, b in zip(*pair)) / n for pair in zip(planes, before)]
+        h, s, l, e = self.deltas
+        wh, ws, wl, we = self.weights
+        self.score = (h * wh + s * ws + l * wl + e * we) / (abs(wh) + abs(ws) + abs(wl) + abs(we))
+        return self.scored(picture[1]), self.score, self.deltas
+
+    def seed(self, ts):
+        return max(ts - self.min_duration, -2 ** 63) if self.initial_cut else ts
+
+    def met(self, ts, last):
+        return last + self.min_duration <= ts
+
+    def shared(self):
+        """The words of the kernel and of initial_cut, and those of the stream."""
+        words = maybe(self.kernel, int) + [int(self.initial_cut)]
+        words += [int(self.previous is not None)] + maybe(self.score, bits)
+        words += [0] * 5 if self.deltas is None else [1] + [bits(x) for x in self.deltas]
+        return words + [self.width, self.height]
+
+
+class Content(Detector):
+    VERSION = 0x4D57434F4E543031
+
+    def __init__(self, threshold, min_duration, weights, mode, kernel, initial_cut):
+        self.mode = mode
+        super().__init__(threshold, min_duration, weights, kernel, initial_cut)
+
+    def clear(self):
+        super().clear()
+        self.unscored()
+
+    def unscored(self):
+        self.last = self.start = None
+        self.enabled = self.pending = False
+
+    def scored(self, ts):
+        above = self.score >= self.threshold
+        if self.last is None:
+            self.last = self.seed(ts)
+        met = self.met(ts, self.last)
+        if self.mode == 1:  # RULES 7.3
+            if above and met:
+                self.last = ts
+                return ts
+            return None
+        if above:  # RULES 7.4
+            self.last = ts
+        if self.pending:
+            if not above and met and max(self.last - self.start, 0) >= self.min_duration:
+                self.pending = False
+                return self.last
+        elif above and met:
+            self.enabled = True
+            return ts
+        elif above and self.enabled:
+            self.pending, self.start = True, ts
+        return None
+
+    def words(self):
+        words = [self.VERSION, bits(self.threshold), self.min_duration] + [bits(w) for w in self.weights] + [self.mode]
+        words += self.shared() + maybe(self.last, stamp) + [int(self.enabled), int(self.pending)]
+        return words + maybe(self.start, stamp)
+
+
+class Adaptive(Detector):
+    VERSION = 0x4D57414441503031
+
+    def __init__(self, threshold, min_duration, window, least, weights, kernel, initial_cut):
+        self.window, self.least = window, least
+        super().__init__(threshold, min_duration, weights, kernel, initial_cut)
+
+    def clear(self):
+        super().clear()
+        self.stamps, self.scores, self.sum = [], [], 0.0
+        self.last = self.ratio = self.target = None
+
+    def unscored(self):
+        pass
+
+    def scored(self, ts):
+        full = 2 * self.window + 1
+        self.stamps.append(ts)
+        self.scores.append(self.score)
+        self.sum += self.score  # RULES 9.5
+        if len(self.scores) > full:
+            self.sum -= self.scores.pop(0)
+            self.stamps.pop(0)
+        if len(self.scores) < full:
+            return None
+        at, self.target = self.stamps[self.window], self.scores[self.window]
+        average = (self.sum - self.target) / (2 * self.window)
+        if abs(average) < 1e-5:
+            self.ratio = 255.0 if self.target >= self.least else 0.0
+        else:
+            self.ratio = min(self.target / average, 255.0)
+        if self.last is None:
+            self.last = self.seed(at)
+        if self.ratio >= self.threshold and self.target >= self.least and self.met(at, self.last):
+            self.last = at
+            return at
+        return None
+
+    def words(self):
+        words = [self.VERSION, bits(self.threshold), self.min_duration, self.window, bits(self.least)]
+        words += [bits(w) for w in self.weights] + self.shared()
+        words += [len(self.scores), bits(self.sum)] + maybe(self.last, stamp)
+        words += maybe(self.ratio, bits) + maybe(self.target, bits)
+        words += [stamp(ts) for ts in self.stamps] + [0] * (129 - len(self.stamps))
+        return words + [bits(x) for x in self.scores] + [0] * (129 - len(self.scores))
+
+
+# ---- the calls of calls.c ----
+
+def memory(width, height):
+    """Store, scratch and magnitudes (RULES 12.1, 15.8)."""
+    if max(width, height) > 4096:
+        return 0, 0, 0
+    n = width * height
+    return 4 * n, 7 * n + 2 * max(width, height), n
+
+
+TEXTS = (
+    "accepted",
+    "width or height is over 4,096",
+    "stride is shorter than a row",
+    "luma, BGR or hue data is too short",
+    "saturation plane is too short",
+    "value plane is too short",
+    "a weight is not finite, or beyond 2^20 in size",
+    "all weights are zero",
+    "a set kernel size is below 3 or even",
+    "threshold or min_content_val is NaN",
+    "window_width is 0",
+    "window_width is over 64",
+    "store is too short",
+    "scratch is too short",
+    "magnitudes are too short",
+    "not a valid state, or not a filter mode",
+    "unknown number",
+)
+
+
+def numbers():
+    print("mw_version MW_VERSION")
+    print("mw_content_words", 27)
+    print("mw_adaptive_words", 288)
+    print("mw_answer_words", 8)
+    for width, height in ((12, 9), (9, 12), (4096, 3), (3, 4096), (4097, 3), (3, 4097)):
+        print("mw_store_bytes %d mw_scratch_bytes %d mw_magnitudes %d" % memory(width, height))
+    for i, text in enumerate(TEXTS):
+        print("mw_text", i, text)
+
+
+def answer(cut, score, deltas):
+    parts = ["mw_cut 0" if cut is None else f"mw_cut 1 {cut}"]
+    parts += ["mw_score 0" if score is None else f"mw_score 1 {number(score)}"]
+    return " ".join(parts + ["mw_delta " + number(x) for x in list(deltas) + [0.0]])
+
+
+def readers(name, detector):
+    def one(what, value):
+        has, shown = (0, 0.0) if value is None else (1, value)
+        return f"mw_{name}_has_{what} {has} mw_{name}_{what} {number(shown)}"
+
+    parts = [one("score", detector.score), f"mw_{name}_has_components {int(detector.deltas is not None)}"]
+    parts += [f"mw_{name}_component {number(x)}" for x in (detector.deltas or [0.0] * 4) + [0.0]]
+    if name == "adaptive":
+        parts += [one("ratio", detector.ratio), one("target", detector.target)]
+    print(" ".join(parts), "readers")
+
+
+def film(name, detector, feed):
+    """Frames by the plain calls, on a store of 77, or by the feed calls, on one of 0; then readers, words and clear."""
+    detector.fill = 0 if feed else 77
+    if feed:
+        print("mw_memory_init", 0)
+    for picture in FILM:
+        call = f"mw_{name}_{'feed_' if feed else ''}{picture[0]}"
+        shown_answer = answer(*detector.frame(picture))
+        print(call, picture[1], 0, shown_answer, "store", *(sum(plane) for plane in detector.previous), "kept")
+    readers(name, detector)
+    print("words", shown(detector.words()))
+    print(f"mw_{name}_clear", 0)
+    detector.clear()
+    print("words", shown(detector.words()))
+    readers(name, detector)
+    if feed:
+        print("mw_memory_free done")
+
+
+def refused(name, feed):
+    """One fault at a time, in the order of calls.c, on a frame that is in order else: a state that is not one, a side over
+    4,096 (width, then height), the stride, each plane, store, scratch and magnitudes one short. A feed call has one length
+    for the three planes, so that 4 and 5 do not occur."""
+    for kind in ("luma", "bgr", "hsv"):
+        for fault in [15, 1, 1, 2, 3] + ([4, 5] if kind == "hsv" and not feed else []) + [12, 13, 14]:
+            print(f"mw_{name}_{'feed_' if feed else ''}{kind}", fault, "no cut and no score" if feed else "as before")
+
+
+def empty(name):
+    """Memory of length 0: a state that is not one, a side too large, a stride too short, data too short, a frame with
+    pixels (12), a frame without pixels of height 9, which needs 18 bytes of scratch (13), a frame of 0 x 0 (0)."""
+    for kind in ("luma", "bgr", "hsv"):
+        for fault in (15, 1, 2, 3, 12, 13, 0):
+            print(f"mw_{name}_feed_{kind}", fault, "no cut and no score")
+
+
+def detector_calls(name, default, made):
+    print(f"mw_{name}_default", 0)
+    print("words", shown(default.words()))
+    for make in made:
+        for feed in (False, True):
+            detector = make()
+            print(f"mw_{name}_new", 0)
+            print("words", shown(detector.words()))
+            film(name, detector, feed)
+    refused(name, False)
+    print("mw_memory_init", 0)
+    refused(name, True)
+    print("mw_memory_free done")
+    print("mw_memory_lend 0 0 0 not NULL")
+    empty(name)
+    print("mw_memory_init", 1)
+    print("mw_memory_init", 1)
+
+
+def main():
+    numbers()
+    weights = (1.0, 1.0, 1.0, 0.0)
+    detector_calls("content", Content(27.0, 1000000, weights, 0, None, True), (
+        lambda: Content(10.5, 300000, (1.0, 2.0, 3.0, 4.0), 1, 3, False),
+        lambda: Content(20.25, 250000, (3.0, 1.0, 2.0, 0.0), 0, None, True),
+    ))
+    detector_calls("adaptive", Adaptive(3.0, 1000000, 2, 15.0, weights, None, True), (
+        lambda: Adaptive(1.5, 200000, 1, 2.5, (4.0, 3.0, 1.0, 2.0), 3, False),
+        lambda: Adaptive(1.25, 350000, 2, 5.5, (2.0, 1.0, 3.0, 0.0), None, True),
+    ))
+
+
+if __name__ == "__main__":
+    main()
