@@ -57,7 +57,11 @@ fn is_options(w: &[u64]) -> bool
     requires { ⌜ length (now w) ≡ 11 ⌝ }
     ensures { λ r. ⌜ r ≡ isOptions (now (w .entry)) ⌝ }
 {
-    (w[0] == 0x4d57434f4e543031) & (w[7] <= 1) & (w[8] <= 1) & ((w[8] == 0) | (w[9] < 4294967296)) & (w[10] <= 1)
+    (w[0] == 0x4d57434f4e543031)
+        & (w[7] <= 1)
+        & (w[8] <= 1)
+        & ((w[8] == 0) | (w[9] < 4294967296))
+        & (w[10] <= 1)
 }
 
 fn options_of(w: &[u64]) -> Options

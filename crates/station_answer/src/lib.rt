@@ -127,7 +127,7 @@ pub fn has_components(c: MaybeComponents) -> u32
 pub fn component_at(c: MaybeComponents, place: u32) -> f64
     ensures { λ r. ⌜ r ≡ componentAt (componentsShown c) place ⌝ }
 {
-    let shown = words::components_shown(c);
+    let shown = stream::components_shown(c);
     if place == 0 {
         return shown.delta_hue;
     }

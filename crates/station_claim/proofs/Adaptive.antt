@@ -9,19 +9,20 @@ use lib.Dec.{eqb}
 use Rattle.timestamp.specs.declared.Timestamp.{Timestamp}
 use Rattle.timestamp.specs.declared.MaybeTimestamp.{MaybeTimestamp}
 use Rattle.timestamp.specs.declared.MaybeTimestamp.the-variants.{None}
+use Rattle.frame_call.specs.declared.Picture.{Picture}
+use Rattle.frame_call.specs.Call.{Memory, pictured, answeredBy}
 use Rattle.scoring.specs.Planes.{Planes}
-use Rattle.filter.specs.Claim.{All}
+use Rattle.frame_call.specs.Run.{ownNumber, MadeCall, runFrom}
+use Rattle.laws.specs.Lists.{All}
 use Rattle.adaptive.specs.declared.Options.{Options}
 use Rattle.adaptive.specs.declared.Detector.{Detector}
-use Rattle.adaptive.specs.Options.{defaults, optionsRefusal}
-use Rattle.adaptive.specs.State.{fresh, badState, settled, clearedAnswer}
-use Rattle.adaptive.specs.Step.{stepped}
+use Rattle.adaptive.specs.declared.Answer.{Answer}
+use Rattle.adaptive.specs.Options.{defaults, pictureOptions, optionsRefusal}
+use Rattle.adaptive.specs.State.{fresh, badState, settled, refusedAnswer, clearedAnswer}
+use Rattle.adaptive.specs.Step.{stepped, called}
 use Rattle.frame_call.specs.Call.{Call, luma, bgr, hsv, clear}
-use Rattle.adaptive.specs.Step.{called}
-use Rattle.content_claim.specs.View.{ownNumber}
-use Rattle.adaptive_claim.specs.Claim.{runFrom, withAnswer, fromClearToClear, AdaptiveClaim}
-use Rattle.adaptive_claim.specs.Claim.{Made as Answer-made}
-use Rattle.adaptive_claim.proofs.Theorem.{adaptive-claim, defaults-accepted}
+use Rattle.adaptive_claim.specs.Claim.{fromClearToClear, AdaptiveClaim}
+use Rattle.adaptive_claim.proofs.Theorem.{adaptive-claim, withAnswer, defaults-accepted}
 use Rattle.adaptive_words.specs.Record.{adaptiveOf}
 use Rattle.station_answer.specs.Contracts.{SettingsContract}
 use Rattle.adaptive_station.specs.Station.{adaptiveLayout, adaptiveCall, startedBy}
@@ -31,17 +32,22 @@ use Rattle.station_claim.proofs.Runs.{Heard, heardFrom, heardBy, heard-
 
 -- ---- a call that is refused has no cut, nor has `clear`
 
-frame-none : (d : Detector) (n w h : ℕ) (p : Planes) (ts : Timestamp) (store : List ℕ) → eqb (frameCall d n w h p ts store .answer .number) 0 ≡ false
-    → frameCall d n w h p ts store .answer .cut ≡ None
-unfolding frameCall accepted stepped
-frame-none d n w h p ts store e = by-zero (eqb n 0) refl e
+picture-none : (d : Detector) (ts : Timestamp) (p : Picture) → eqb (answeredBy (stepped d ts) (refusedAnswer d) p .number) 0 ≡ false
+    → answeredBy (stepped d ts) (refusedAnswer d) p .cut ≡ None
+unfolding stepped
+picture-none d ts p e = by-zero (eqb (p .number) 0) refl e
   where
-    by-zero : (b : Bool) → eqb n 0 ≡ b → eqb (frameCall d n w h p ts store .answer .number) 0 ≡ false → frameCall d n w h p ts store .answer .cut ≡ None
+    by-zero : (b : Bool) → eqb (p .number) 0 ≡ b → eqb (answeredBy (stepped d ts) (refusedAnswer d) p .number) 0 ≡ false → answeredBy (stepped d ts) (refusedAnswer d) p .cut ≡ None
     by-zero true z f = absurd (no (rw z at f))
       where
         no : true ≡ false → ⊥
         no x = subst (λ (b : Bool). cond b Unit ⊥) x tt
     by-zero false z f = rw z
+
+frame-none : (d : Detector) (u w h : ℕ) (p : Planes) (ts : Timestamp) (m : Memory)
+    → let a : Answer = answeredBy (stepped d ts) (refusedAnswer d) (pictured (d .stream) (pictureOptions (d .options)) (badState d) u w h p m .answer) in
+    eqb (a .number) 0 ≡ false → a .cut ≡ None
+frame-none d u w h p ts m e = picture-none d ts (pictured (d .stream) (pictureOptions (d .options)) (badState d) u w h p m .answer) e
 
 clear-none : (d : Detector) → clearedAnswer d .cut ≡ None
 unfolding clearedAnswer
@@ -52,24 +58,24 @@ clear-none d = by-bad (badState d) refl
     by-bad false e = rw e
 
 refused-none : (d : Detector) (c : Call) → eqb (adaptiveCall d c .number) 0 ≡ false → adaptiveCall d c .cut ≡ None
-refused-none d (luma plane w h stride ts m) e = frame-none d _ w h _ ts (m .store) e
-refused-none d (bgr pixels w h stride ts m) e = frame-none d _ w h _ ts (m .store) e
-refused-none d (hsv hs ss vs w h stride ts m) e = frame-none d _ w h _ ts (m .store) e
+refused-none d (luma plane w h stride ts m) e = frame-none d _ w h _ ts m e
+refused-none d (bgr pixels w h stride ts m) e = frame-none d _ w h _ ts m e
+refused-none d (hsv hs ss vs w h stride ts m) e = frame-none d _ w h _ ts m e
 refused-none d clear e = clear-none d
 
 -- ---- what the station sees is what the definition's run has
 
-abbrev heardOf : Answer-made → Heard
+abbrev heardOf : MadeCall Answer → Heard
 heardOf m = record { call = m .call; number = m .outcome .answer .number; cut = m .outcome .answer .cut }
 
 abbrev heard : Detector → List Call → List Heard
 heard d cs = heardBy adaptiveLayout adaptiveCall refused-none clear-none d cs
 
-heard-run : (d : Detector) (cs : List Call) → heard d cs ≡ map heardOf (runFrom d cs)
+heard-run : (d : Detector) (cs : List Call) → heard d cs ≡ map heardOf (runFrom called (λ (a : Answer). a .detector) d cs)
 heard-run d [] = refl
 heard-run d (c ∷ cs) = ap (λ (hs : List Heard). record { call = c; number = called d c .answer .number; cut = called d c .answer .cut } ∷ hs) (heard-run (called d c .answer .detector) cs)
 
-all-of : (P : Heard → Type 0) (ms : List Answer-made) → All (λ (m : Answer-made). P (heardOf m)) ms → All P (map heardOf ms)
+all-of : (P : Heard → Type 0) (ms : List (MadeCall Answer)) → All (λ (m : MadeCall Answer). P (heardOf m)) ms → All P (map heardOf ms)
 all-of P [] a = tt
 all-of P (m ∷ ms) a = (a .0, all-of P ms (a .1))
 
@@ -82,7 +88,7 @@ parts-read : (ys : List StationCall) → readFromClearToClear ys ≡ parts (map 
 parts-read [] = refl
 parts-read (y ∷ ys) = ap (λ (ps : List (List MaybeTimestamp)). withAnswer (y .call) (cutRead y) ps) (parts-read ys)
 
-parts-made : (ms : List Answer-made) → parts (map heardOf ms) ≡ fromClearToClear ms
+parts-made : (ms : List (MadeCall Answer)) → parts (map heardOf ms) ≡ fromClearToClear ms
 parts-made [] = refl
 parts-made (m ∷ ms) = ap (λ (ps : List (List MaybeTimestamp)). withAnswer (m .call) (m .outcome .answer .cut) ps) (parts-made ms)
 
@@ -93,7 +99,7 @@ module _ (o : Options) (ok : optionsRefusal o ≡ 0) (s : List ℕ) (ys : List S
   claim : AdaptiveClaim o callsMade
   claim = adaptive-claim o ok callsMade
 
-  all-heard : map heardFrom ys ≡ map heardOf (runFrom (fresh o) callsMade)
+  all-heard : map heardFrom ys ≡ map heardOf (runFrom called (λ (a : Answer). a .detector) (fresh o) callsMade)
   all-heard = heard-is adaptiveLayout adaptiveCall refused-none clear-none made (fresh o) start ∙ heard-run (fresh o) callsMade
 
   pub adaptive-spacing : AdaptiveSpacing o s ys
@@ -101,9 +107,9 @@ module _ (o : Options) (ok : optionsRefusal o ≡ 0) (s : List ℕ) (ys : List S
       record {
         each =
             each-is adaptiveLayout adaptiveCall refused-none clear-none made (fresh o) start
-            (rw (heard-run (fresh o) callsMade) (all-of (λ (h : Heard). h .number ≡ ownNumber (h .call)) (runFrom (fresh o) callsMade) (claim .numbers)))
-            (rw (heard-run (fresh o) callsMade) (all-of (λ (h : Heard). h .number < 15) (runFrom (fresh o) callsMade) (claim .never-bad)));
-        distance = rw (parts-read ys, all-heard, parts-made (runFrom (fresh o) callsMade)) (claim .distance);
+            (rw (heard-run (fresh o) callsMade) (all-of (λ (h : Heard). h .number ≡ ownNumber (h .call)) (runFrom called (λ (a : Answer). a .detector) (fresh o) callsMade) (claim .each-call .numbers)))
+            (rw (heard-run (fresh o) callsMade) (all-of (λ (h : Heard). h .number < 15) (runFrom called (λ (a : Answer). a .detector) (fresh o) callsMade) (claim .each-call .never-bad)));
+        distance = rw (parts-read ys, all-heard, parts-made (runFrom called (λ (a : Answer). a .detector) (fresh o) callsMade)) (claim .distance);
       }
 
 -- ---- from the words that a settings call wrote

@@ -7,9 +7,9 @@ use borrow.Author.Tests.{eqb-true}
 use lib.Dec.{eqb}
 use Rattle.timestamp.specs.declared.MaybeTimestamp.{MaybeTimestamp}
 use Rattle.timestamp.specs.declared.MaybeTimestamp.the-variants.{None}
-use Rattle.filter.specs.Claim.{All, leaveOut}
+use Rattle.laws.specs.Lists.{All, leaveOut}
 use Rattle.frame_call.specs.Call.{Memory, Call, clear}
-use Rattle.content_claim.specs.View.{ownNumber}
+use Rattle.frame_call.specs.Run.{ownNumber}
 use Rattle.station_answer.specs.Answer.{answerWords, cutIn}
 use Rattle.station_answer.specs.Contracts.{Layout, Brought, FrameContract}
 use Rattle.station_claim.specs.Run.{isFrame, StationCall, wasRefused, cutRead, Made, by-frame, by-clear, MadeFrom, none, then}

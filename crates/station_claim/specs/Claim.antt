@@ -1,18 +1,20 @@
 -- Promise 3, of every list of calls that a station makes on one detector, from the words that a settings call wrote. The cuts are those that
 -- the station reads from the answers' words. Stretches, choices and distances are those of `filter`'s Claim.antt; which number a call is
--- refused by, and how it counts, is said of the settings and the call alone (`content_claim`, View.antt).
+-- refused by, and how it counts, is said of the settings and the call alone (`frame_call`, Run.antt; `content_claim`, Claim.antt).
 use mathlib.Core.Path.{_≡_}
 use mathlib.Core.List.{List, [], _∷_, map}
 use Prim.Native.Nat.{ℕ, _<_}
 use Rattle.timestamp.specs.declared.MaybeTimestamp.{MaybeTimestamp}
 use Rattle.filter.specs.Calls.{Answered, _brought_}
-use Rattle.filter.specs.Claim.{All, leaveOut, cutsIn, KeepsDistance, Holds}
+use Rattle.laws.specs.Lists.{All, leaveOut}
+use Rattle.filter.specs.Claim.{cutsIn, KeepsDistance, StretchesHold}
+use Rattle.window.specs.Claim.{joinedPart}
 use Rattle.content.specs.declared.Options.{Options}
 use Rattle.content.specs.Options.{filterOptions}
 use Rattle.adaptive.specs.declared.Options.{Options as AdaptiveOptions}
-use Rattle.frame_call.specs.Call.{Call}
-use Rattle.content_claim.specs.View.{ownNumber, viewOf}
-use Rattle.adaptive_claim.specs.Claim.{withAnswer}
+use Rattle.frame_call.specs.Call.{Call, byCall}
+use Rattle.frame_call.specs.Run.{ownNumber}
+use Rattle.content_claim.specs.Claim.{viewOf}
 use Rattle.station_answer.specs.Contracts.{Layout, Brought}
 use Rattle.content_station.specs.Station.{contentLayout, contentCall}
 use Rattle.adaptive_station.specs.Station.{adaptiveLayout, adaptiveCall}
@@ -36,12 +38,14 @@ withCutRead o y = viewOf o (y .call) brought cutRead y
 -- the spacing theorem for the content detector: each stretch keeps the rule of the mode, and every cut is a stretch's
 pub record ContentSpacing (o : Options) (s : List ℕ) (ys : List StationCall) : Type 0 where
   pub each : EachCall contentLayout contentCall s ys
-  pub holds : Holds (filterOptions o) (map (withCutRead o) ys)
+  pub holds : StretchesHold (filterOptions o) (map (withCutRead o) ys)
 
--- the cuts or none that the station reads, from clear to clear
+-- the cuts or none that the station reads, from clear to clear: a clear ends its part
 abbrev pub readFromClearToClear : List StationCall → List (List MaybeTimestamp)
 readFromClearToClear [] = [] ∷ []
-readFromClearToClear (y ∷ ys) = withAnswer (y .call) (cutRead y) (readFromClearToClear ys)
+readFromClearToClear (y ∷ ys) =
+    let cut = cutRead y in
+    byCall (λ u w h p ts m. joinedPart cut (readFromClearToClear ys)) ((cut ∷ []) ∷ readFromClearToClear ys) (y .call)
 
 -- the spacing theorem for the adaptive detector: from clear to clear the cuts keep the distance, whatever the stamps do
 pub record AdaptiveSpacing (o : AdaptiveOptions) (s : List ℕ) (ys : List StationCall) : Type 0 where

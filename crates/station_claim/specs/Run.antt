@@ -6,22 +6,16 @@ use Prim.Native.Nat.{ℕ}
 use lib.Dec.{eqb}
 use Rattle.timestamp.specs.declared.MaybeTimestamp.{MaybeTimestamp}
 use Rattle.timestamp.specs.declared.MaybeTimestamp.the-variants.{None}
-use Rattle.frame_call.specs.Call.{Memory, memory, Call, luma, bgr, hsv, clear}
+use Rattle.frame_call.specs.Call.{Memory, memory, Call, clear, byCall}
 use Rattle.station_answer.specs.Answer.{cutIn}
 use Rattle.station_answer.specs.Contracts.{Layout, Brought, FrameContract, ClearContract}
 
 -- a frame call, and the memory that it is lent; `clear` is lent none
 abbrev pub isFrame : Call → Bool
-isFrame (luma plane w h stride ts m) = true
-isFrame (bgr pixels w h stride ts m) = true
-isFrame (hsv hs ss vs w h stride ts m) = true
-isFrame clear = false
+isFrame c = byCall (λ u w h p ts m. true) false c
 
 abbrev pub memoryIn : Call → Memory
-memoryIn (luma plane w h stride ts m) = m
-memoryIn (bgr pixels w h stride ts m) = m
-memoryIn (hsv hs ss vs w h stride ts m) = m
-memoryIn clear = memory [] [] []
+memoryIn c = byCall (λ u w h p ts m. m) (memory [] [] []) c
 
 -- what a station sees of a call that it made: the call, the number that was returned, and the words of the state, the words of the answer
 -- and the store after it (`clear` is lent neither an answer nor a store)

@@ -193,20 +193,6 @@ pub fn components_tag(c: MaybeComponents) -> u64
     }
 }
 
-pub fn components_shown(c: MaybeComponents) -> Components
-    ensures { λ r. ⌜ r ≡ componentsShown c ⌝ }
-{
-    match c {
-        MaybeComponents::None => Components {
-            delta_hue: 0.0,
-            delta_sat: 0.0,
-            delta_lum: 0.0,
-            delta_edges: 0.0,
-        },
-        MaybeComponents::Some(shown) => shown,
-    }
-}
-
 // Four doubles by their words.
 pub fn components_of(hue: u64, sat: u64, lum: u64, edges: u64) -> Components
     ensures { λ r. ⌜ r ≡ componentsOf hue sat lum edges ⌝ }
@@ -235,7 +221,7 @@ pub fn stream_words(s: Stream) -> [u64; 10]
 {
     let last_score = s.last_score;
     let last_components = s.last_components;
-    let shown = components_shown(last_components);
+    let shown = stream::components_shown(last_components);
     let w0 = flag_word(s.has_previous);
     let w1 = score_tag(last_score);
     let w2 = score_word(last_score);

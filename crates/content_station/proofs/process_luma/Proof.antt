@@ -1,9 +1,10 @@
 -- `content_station::process_luma` meets its contract: a call that is accepted, whose record and answer are written, and one that is refused.
-use Rattle.content_station.proofs.Laws.{refused-keeps, told-refused, told-done}
+use Rattle.content_station.proofs.Laws.{told-refused, told-done}
 use mir.ValLaws.{toZ-ofZ}
 use mir.Syntax.{w64}
 use native.Mathlib.Omega.{arith}
 use borrow.Author.Needs.{needs}
+use Rattle.frame_call.specs.Call.{luma, memory}
 use Rattle.content_station.proofs.process_luma.Statement.{statement}
 use Rattle.content_station.proofs.process_luma.Tie as tie
 
@@ -31,7 +32,7 @@ returns c =
     let p = e .before .before .before .before .before .before in
     let start = p .before .before .before .before .before .before .before .before .before .before in
     let called = rw (p .before .before .before .before .read .ensures, toZ-ofZ w64 (start .args .ts) (start .fits .ts)) at (p .process-luma .ensures) in
-    told-done _ _ _ _ _ _ called (omega arith) _ _ (c .write-done .ensures .0) (c .write-done .ensures .1)
+    told-done _ _ (luma (start .args .plane .now) (start .args .width) (start .args .height) (start .args .stride) (record { micros = start .args .ts }) (memory (start .args .store .now) (start .args .scratch .now) (start .args .magnitudes .now))) _ _ _ called (omega arith) _ _ (c .write-done .ensures .0) (c .write-done .ensures .1)
 
 same-length-4 : tie.Need-same-length-4
 same-length-4 c = search needs
@@ -47,7 +48,7 @@ returns-2 c =
     let p = c .before .before .before .before .before .before in
     let start = p .before .before .before .before .before .before .before .before .before .before in
     let called = rw (p .before .before .before .before .read .ensures, toZ-ofZ w64 (start .args .ts) (start .fits .ts)) at (p .process-luma .ensures) in
-    told-refused _ _ _ _ _ _ called (refused-keeps _ _ _) (omega arith)
+    told-refused _ _ (luma (start .args .plane .now) (start .args .width) (start .args .height) (start .args .stride) (record { micros = start .args .ts }) (memory (start .args .store .now) (start .args .scratch .now) (start .args .magnitudes .now))) _ _ _ called (omega arith)
 
 pub process-luma-spec : {M : Type 1} → statement M
 process-luma-spec =
