@@ -183,7 +183,7 @@ pub fn copy(dst: &mut [u64], src: &[u64])
     }
 }
 
-// Components that may be missing: whether they are there, and the components or four times 0.0.
+// Components that may be missing: whether they are there.
 pub fn components_tag(c: MaybeComponents) -> u64
     ensures { λ r. ⌜ r ≡ componentsTag c ⌝ }
 {
