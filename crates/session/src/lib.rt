@@ -228,11 +228,11 @@ fn hold_bytes(line: &mut [u8], held: usize, chunk: &[u8]) -> Held
 }
 
 // The length that any record stands for.
-fn held_length(n: usize) -> usize
-    ensures { λ r. ⌜ r ≡ heldLength n ⌝ }
+fn held_length(told: usize) -> usize
+    ensures { λ r. ⌜ r ≡ heldLength told ⌝ }
 {
-    if n < HELD {
-        return n;
+    if told < HELD {
+        return told;
     }
     HELD
 }
