@@ -9,13 +9,13 @@ ghost use Rattle.cuts.specs.Reads.{goesOn, AfterRead, FedSome};
 use libc::STDERR_FILENO;
 use libc::STDIN_FILENO;
 use libc::STDOUT_FILENO;
-use session::Session;
 use session::HEADER;
 use session::HELD;
 use session::PIXELS;
 use session::ROOM;
 use session::SCRATCH;
 use session::STORE;
+use session::Session;
 
 // A proved loop has to end, and nothing says that an input does: no run makes so many reads.
 const MOST_READS: u64 = u64::MAX;

@@ -13,7 +13,9 @@ use timestamp::Timestamp;
 
 // The digits of the greatest number of 64 bits, and the sizes of the greatest and of the least stamp.
 const DIGITS: usize = 20;
+
 const MOST_STAMP: u64 = 9223372036854775807;
+
 const MOST_BELOW: u64 = 9223372036854775808;
 
 // A number that was read; 0 where the text is none.

@@ -12,8 +12,11 @@ use timestamp::Timestamp;
 
 // The limits of a frame line (RULES 11.3): its bytes, its pixels, the greatest side and the greatest value.
 const MOST_BYTES: usize = 8192;
+
 const MOST_PIXELS: u64 = 1024;
+
 const MOST_SIDE: u64 = 4294967295;
+
 const MOST_VALUE: u64 = 255;
 
 // What a line says. Where it is no frame line, the stamp and the sides are 0.

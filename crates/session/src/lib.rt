@@ -20,10 +20,15 @@ use timestamp::MaybeTimestamp;
 // The bytes that are held of a line, one more than a frame line may have; the memory of the frame calls; the header's bytes; and the room
 // that is asked for a line's text, which has at most 53 bytes.
 pub const HELD: usize = 8193;
+
 pub const PIXELS: usize = 1024;
+
 pub const STORE: usize = 4096;
+
 pub const SCRATCH: usize = 9216;
+
 pub const HEADER: usize = 17;
+
 pub const ROOM: usize = 64;
 
 // What one chunk hands to the next: the detector, the number of the current line, and how many bytes of it the lent line holds.

@@ -8,7 +8,9 @@ use libc::STDOUT_FILENO;
 
 // The chunk sizes that are tried, and the room for the input and for each output.
 const MOST_SIZE: usize = 300;
+
 const INPUT: usize = 131072;
+
 const OUTPUT: usize = 65536;
 
 // Whether both have n bytes, and the first n bytes of both are the same.

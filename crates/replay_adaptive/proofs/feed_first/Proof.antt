@@ -19,7 +19,7 @@ feed-requires-2 : tie.Need-feed-requires-2
 feed-requires-2 c κs = search needs
 
 returns-2 : tie.Need-returns-2
-returns-2 c = let s = c .before .before .args in rw (take-all (s .n) (s .out .now) (omega (arith, c .before .if1 .left))) (c .feed2 .ensures)
+returns-2 c = let s = c .before .before .before .args in rw (take-all (s .n) (s .out .now) (omega (arith, c .before .if1 .left))) (c .feed2 .ensures)
 
 pub feed-first-spec : {M : Type 1} → statement M
 feed-first-spec = tie.close (tie.spec slice-aggregate-feed feed-requires returns feed-requires-2 returns-2)
