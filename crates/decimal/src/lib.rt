@@ -11,9 +11,10 @@ ghost use Rattle.decimal.specs.Writing.{digits, decimal, stampText};
 ghost use Rattle.decimal.specs.Placed.{placed};
 use timestamp::Timestamp;
 
-// The digits of the greatest number of 64 bits, and the sizes of the greatest and of the least stamp.
+// The digits of the greatest number of 64 bits.
 const DIGITS: usize = 20;
 
+// The greatest stamp, and the size of the least.
 const MOST_STAMP: u64 = 9223372036854775807;
 
 const MOST_BELOW: u64 = 9223372036854775808;

@@ -1,5 +1,5 @@
--- Document 01, `src/frame.rs` and refusals 1 to 5. "Height × stride bytes are needed, the last row's padding included. Zero width
--- or height is accepted."
+-- The checks of frames (RULES 2.4 to 2.6). A plane needs height × stride bytes, the padding of the last row included. A width or a height of
+-- 0 is accepted.
 use mathlib.Core.Bool.{Bool, _||_}
 use mathlib.Core.List.{[], _∷_}
 use Prim.Native.Nat.{ℕ, _*_}

@@ -1,4 +1,4 @@
--- Document 01, "What the station reports": a call is refused by the first row whose condition holds; 0 where none does.
+-- A call is refused by the first of its conditions that holds (RULES 10.2); 0 where none does.
 use mathlib.Core.Bool.{Bool, cond}
 use mathlib.Core.List.{List, [], _∷_}
 use Prim.Native.Nat.{ℕ}

@@ -10,13 +10,16 @@ ghost use Rattle.frame_line.specs.Line.{allValues, isFrame, lineOf, luma
 ghost use Rattle.frame_line.specs.Steps.{endOf, fieldsAfter, nextNumber};
 use timestamp::Timestamp;
 
-// The limits of a frame line (RULES 11.3): its bytes, its pixels, the greatest side and the greatest value.
+// The most bytes of a frame line, its line feed not counted (RULES 11.3).
 const MOST_BYTES: usize = 8192;
 
+// The most pixels of its frame.
 const MOST_PIXELS: u64 = 1024;
 
+// The greatest side, of 32 bits: 1 refuses far smaller ones.
 const MOST_SIDE: u64 = 4294967295;
 
+// The greatest luma value.
 const MOST_VALUE: u64 = 255;
 
 // What a line says. Where it is no frame line, the stamp and the sides are 0.

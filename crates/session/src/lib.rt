@@ -17,18 +17,21 @@ use content::Detector;
 use frame_line::FrameLine;
 use timestamp::MaybeTimestamp;
 
-// The bytes that are held of a line, one more than a frame line may have; the memory of the frame calls; the header's bytes; and the room
-// that is asked for a line's text, which has at most 53 bytes.
+// The bytes that are held of a line: one more than a frame line may have, so that a longer one is told.
 pub const HELD: usize = 8193;
 
+// The most pixels of a line's frame: so many luma values and magnitudes are lent.
 pub const PIXELS: usize = 1024;
 
+// The bytes of the store and of the scratch, enough for each frame of a line that 1 does not refuse.
 pub const STORE: usize = 4096;
 
 pub const SCRATCH: usize = 9216;
 
+// The bytes of the header.
 pub const HEADER: usize = 17;
 
+// The room that is asked for a line's text, which has at most 53 bytes.
 pub const ROOM: usize = 64;
 
 // What one chunk hands to the next: the detector, the number of the current line, and how many bytes of it the lent line holds.
