@@ -1,7 +1,7 @@
 //! Compares the proved functions with the Rust. `compare/run` builds and starts it; README.md says what it does.
 //!
 //! driver ROOT [--seed N] [--count N]    compares; ROOT is the repository's root
-//! driver ROOT --write                   writes the programs' stored outputs anew
+//! driver ROOT --write                   writes the programs' stored outputs anew, and the stored input of `cuts`
 //! driver ROOT --time                    times both sides
 mod adaptive_lists;
 #[cfg(rattle)]
@@ -31,6 +31,7 @@ mod session_inputs;
 mod sessions;
 #[cfg(rattle)]
 mod station;
+mod stored_input;
 mod table;
 #[cfg(rattle)]
 mod time;
@@ -58,21 +59,26 @@ fn outputs(root: &Path) -> Vec<(&'static str, String)> {
     outputs
 }
 
-fn write(root: &Path) -> ExitCode {
-    for (program, output) in outputs(root) {
-        let path = stored(root, program);
-        if let Err(e) = std::fs::write(&path, &output) {
-            eprintln!("{}: {e}", path.display());
-            return ExitCode::FAILURE;
-        }
-        println!("wrote {}", path.display());
-    }
-    ExitCode::SUCCESS
+fn write_file(path: &Path, bytes: &[u8]) -> std::io::Result<()> {
+    std::fs::write(path, bytes).inspect_err(|e| eprintln!("{}: {e}", path.display()))?;
+    println!("wrote {}", path.display());
+    Ok(())
 }
 
-/// The stored outputs beside the oracle's, line by line.
+fn write_all(root: &Path) -> std::io::Result<()> {
+    write_file(&root.join("crates/cuts/stdin"), &stored_input::cuts())?;
+    outputs(root).iter().try_for_each(|(program, output)| write_file(&stored(root, program), output.as_bytes()))
+}
+
+fn write(root: &Path) -> ExitCode {
+    if write_all(root).is_ok() { ExitCode::SUCCESS } else { ExitCode::FAILURE }
+}
+
+/// The stored outputs beside the oracle's, line by line, and the stored input of `cuts` beside the one that is made here.
 fn replays(root: &Path) -> table::Row {
     let mut row = table::Row::new("stored outputs of the programs, lines");
+    let input = std::fs::read(root.join("crates/cuts/stdin")).unwrap_or_default();
+    row.compare(input.len() as u64, || "the input of cuts".into(), true, input == stored_input::cuts());
     for (program, output) in outputs(root) {
         let text = std::fs::read_to_string(stored(root, program)).unwrap_or_default();
         let count = output.lines().count().max(text.lines().count());

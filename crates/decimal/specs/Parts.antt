@@ -1,4 +1,4 @@
--- A text in parts: document 01's lines, "each line ended by a line feed", and fields, "parted by commas".
+-- A text in parts: the lines of an input, which line feeds end (RULES 11.1), and the fields of a line, which commas separate (RULES 11.2).
 use mathlib.Core.Bool.{cond}
 use mathlib.Core.List.{List, [], _∷_}
 use Prim.Native.Nat.{ℕ}

@@ -1,4 +1,4 @@
--- Document 01, the session program: "all decimal, .. leading zeros allowed, a minus only before a stamp".
+-- Numbers and stamps in a text (RULES 11.2): decimal, leading zeros allowed, a minus only before a stamp.
 use mathlib.Core.Bool.{Bool, true, false, cond, _&&_}
 use mathlib.Core.List.{List, [], _∷_}
 use Prim.Native.Nat.{ℕ, _+_, _-_, _*_}

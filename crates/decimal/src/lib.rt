@@ -1,4 +1,4 @@
-// Decimal numbers and stamps, read from text and written as text.
+// Decimal numbers and stamps, read from text and written as text (RULES 11.2).
 ghost use mathlib.Core.Path.{_≡_};
 ghost use mathlib.Core.Bool.{_&&_};
 ghost use mathlib.Core.List.{[], _∷_};
@@ -10,6 +10,14 @@ ghost use Rattle.decimal.specs.Reading.{isDigit, numberIf, numberRead, s
 ghost use Rattle.decimal.specs.Writing.{digits, decimal, stampText};
 ghost use Rattle.decimal.specs.Placed.{placed};
 use timestamp::Timestamp;
+
+// The digits of the greatest number of 64 bits.
+const DIGITS: usize = 20;
+
+// The greatest stamp, and the size of the least.
+const MOST_STAMP: u64 = 9223372036854775807;
+
+const MOST_BELOW: u64 = 9223372036854775808;
 
 // A number that was read; 0 where the text is none.
 pub struct Number {
@@ -44,10 +52,10 @@ fn put_digits(out: &mut [u8], at: usize, n: u64, k: usize) -> usize
         return at;
     }
     if n < 10 {
-        return put_byte(out, at, 48 + n as u8);
+        return put_byte(out, at, b'0' + n as u8);
     }
     let e = put_digits(out, at, n / 10, k - 1);
-    put_byte(out, e, 48 + (n % 10) as u8)
+    put_byte(out, e, b'0' + (n % 10) as u8)
 }
 
 // n in decimal: 20 digits at most.
@@ -55,7 +63,7 @@ pub fn put_number(out: &mut [u8], at: usize, n: u64) -> usize
     requires { ⌜ at + 20 ≤ length (now out) ⌝ }
     ensures { λ r. ⌜ (now (out .exit) ≡ placed (now (out .entry)) at (decimal n)) × (r ≡ at + length (decimal n)) ⌝ }
 {
-    put_digits(out, at, n, 20)
+    put_digits(out, at, n, DIGITS)
 }
 
 // The size of a stamp.
@@ -74,7 +82,7 @@ pub fn put_stamp(out: &mut [u8], at: usize, ts: Timestamp) -> usize
     ensures { λ r. ⌜ (now (out .exit) ≡ placed (now (out .entry)) at (stampText (ts .micros))) × (r ≡ at + length (stampText (ts .micros))) ⌝ }
 {
     if ts.micros < 0 {
-        let a = put_byte(out, at, 45);
+        let a = put_byte(out, at, b'-');
         return put_number(out, a, size(ts.micros));
     }
     put_number(out, at, size(ts.micros))
@@ -84,19 +92,19 @@ pub fn put_stamp(out: &mut [u8], at: usize, ts: Timestamp) -> usize
 fn with_digit(value: u64, b: u8, most: u64) -> Number
     ensures { λ r. ⌜ r ≡ numberIf (isDigit b && leb (10 * value + (b - 48)) most) (10 * value + (b - 48)) ⌝ }
 {
-    if b < 48 {
+    if b < b'0' {
         return Number {
             ok: false,
             value: 0,
         };
     }
-    if 57 < b {
+    if b'9' < b {
         return Number {
             ok: false,
             value: 0,
         };
     }
-    let d = (b - 48) as u64;
+    let d = (b - b'0') as u64;
     if most < d {
         return Number {
             ok: false,
@@ -162,15 +170,15 @@ pub fn read_stamp(part: &[u8]) -> Stamp
             stamp: Timestamp { micros: 0 },
         };
     }
-    if part[0] == 45 {
-        let n = read_number(&part[1..], 9223372036854775808);
+    if part[0] == b'-' {
+        let n = read_number(&part[1..], MOST_BELOW);
         let z = minus(n.value);
         return Stamp {
             ok: n.ok,
             stamp: Timestamp { micros: z },
         };
     }
-    let n = read_number(part, 9223372036854775807);
+    let n = read_number(part, MOST_STAMP);
     let z = n.value as i64;
     Stamp {
         ok: n.ok,

@@ -4,14 +4,17 @@ ghost use mathlib.Core.Path.{_≡_};
 ghost use lib.ListN.{length};
 ghost use Rattle.frame.specs.Checks.{planeRefusal, lumaRefusal, bgrRefusal, hsvRefusal};
 
+// The greatest side of a frame.
+const MOST_SIDE: u32 = 4096;
+
 // Refusals 1 to 3 of a plane whose rows are `row` bytes long.
 fn plane_refusal(row: usize, bytes: usize, width: u32, height: u32, stride: u32) -> u32
     ensures { λ r. ⌜ r ≡ planeRefusal row bytes width height stride ⌝ }
 {
-    if 4096 < width {
+    if MOST_SIDE < width {
         return 1;
     }
-    if 4096 < height {
+    if MOST_SIDE < height {
         return 1;
     }
     if (stride as usize) < row {

@@ -1,4 +1,4 @@
--- Sample lines, by computation: the session lines of document 01 and its open points.
+-- Sample lines, by computation: those of RULES 11.8, and what RULES 11.4 says of lines that may be read in two ways.
 use mathlib.Core.Path.{_≡_, refl}
 use mathlib.Core.Bool.{true, false}
 use mathlib.Core.List.{List, [], _∷_, _++_, map}

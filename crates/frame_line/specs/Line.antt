@@ -1,4 +1,4 @@
--- Document 01, the session program's lines: "`stamp,width,height` and then the luma values, all decimal, parted by commas".
+-- Lines of the session program (RULES 11.2, 11.3): `stamp,width,height` and then the luma values, in decimal, separated by commas.
 use mathlib.Core.Bool.{Bool, true, false, cond, _&&_}
 use mathlib.Core.List.{List, [], _∷_, map}
 use Prim.Native.Nat.{ℕ, _*_}

@@ -1,4 +1,4 @@
-// A line of the session program: `stamp,width,height` and the luma values, in decimal.
+// A line of the session program: `stamp,width,height` and the luma values, in decimal (RULES 11.2, 11.3).
 ghost use mathlib.Core.Path.{_≡_};
 ghost use mathlib.Core.Bool.{true, _&&_};
 ghost use mathlib.Core.List.{map};
@@ -9,6 +9,18 @@ ghost use Rattle.decimal.specs.Reading.{number};
 ghost use Rattle.frame_line.specs.Line.{allValues, isFrame, lineOf, lumaOf, fields, noFrame};
 ghost use Rattle.frame_line.specs.Steps.{endOf, fieldsAfter, nextNumber};
 use timestamp::Timestamp;
+
+// The most bytes of a frame line, its line feed not counted (RULES 11.3).
+const MOST_BYTES: usize = 8192;
+
+// The most pixels of its frame.
+const MOST_PIXELS: u64 = 1024;
+
+// The greatest side, of 32 bits: 1 refuses far smaller ones.
+const MOST_SIDE: u64 = 4294967295;
+
+// The greatest luma value.
+const MOST_VALUE: u64 = 255;
 
 // What a line says. Where it is no frame line, the stamp and the sides are 0.
 pub struct FrameLine {
@@ -32,7 +44,7 @@ fn field_end(line: &[u8], at: usize) -> usize
 {
     let mut i = at;
     while i < line.len() {
-        if line[i] == 44 {
+        if line[i] == b',' {
             return i;
         }
         i += 1;
@@ -73,7 +85,7 @@ fn read_values(line: &[u8], from: usize, n: usize, luma: &mut [u8]) -> bool
     let mut e = from;
     let mut i = 0;
     while i < n {
-        let v = next_number(line, e, 255);
+        let v = next_number(line, e, MOST_VALUE);
         if !v.ok {
             return false;
         }
@@ -104,7 +116,7 @@ pub fn read_line(line: &[u8], luma: &mut [u8; 1024]) -> FrameLine
     ensures { λ r. ⌜ r ≡ lineOf (now (line .entry)) ⌝ }
     ensures { λ r. ⌜ (isFrame (now (line .entry)) ≡ true → take (r .width * r .height) (now (luma .exit)) ≡ lumaOf (fields (now (line .entry)))) ⌝ }
 {
-    if 8192 < line.len() {
+    if MOST_BYTES < line.len() {
         return no_frame();
     }
     let e = field_end(line, 0);
@@ -112,16 +124,16 @@ pub fn read_line(line: &[u8], luma: &mut [u8; 1024]) -> FrameLine
     if !s.ok {
         return no_frame();
     }
-    let w = next_number(line, e, 4294967295);
+    let w = next_number(line, e, MOST_SIDE);
     if !w.ok {
         return no_frame();
     }
-    let h = next_number(line, w.end, 4294967295);
+    let h = next_number(line, w.end, MOST_SIDE);
     if !h.ok {
         return no_frame();
     }
     let n = w.value * h.value;
-    if 1024 < n {
+    if MOST_PIXELS < n {
         return no_frame();
     }
     if !read_values(line, h.end, n as usize, luma) {

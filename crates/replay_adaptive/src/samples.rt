@@ -1,4 +1,8 @@
-// Sample rows of document 01, and an average of exactly 1e-5. The frames are luma of 1 x 1.
+// The window rows of RULES 13.2, and an average of exactly 1e-5. The frames are luma of 1 x 1.
+ghost use mathlib.Core.Path.{_≡_};
+ghost use Rattle.adaptive.specs.Options.{defaults};
+ghost use Rattle.adaptive.specs.Options.{options as Options·options};
+ghost use Rattle.adaptive.specs.Options.{optionsRefusal};
 use adaptive::Detector;
 use adaptive::Options;
 use score::Components;
@@ -63,7 +67,9 @@ fn ratio(o: Options, luma: &[u8]) -> u64 {
 }
 
 // Window 1, these weights, and a target of this at least.
-fn options(weights: Components, least: f64) -> Options {
+fn options(weights: Components, least: f64) -> Options
+    ensures { λ r. ⌜ r ≡ Options·options (defaults .«adaptive_threshold») (defaults .«min_duration») 1 least weights (defaults .«kernel_size») (defaults .«initial_cut») ⌝ }
+{
     let o = Options::new();
     let narrow = o.with_window_width(1);
     let weighed = narrow.with_weights(weights);
@@ -71,7 +77,9 @@ fn options(weights: Components, least: f64) -> Options {
 }
 
 // The answer of a settings call with this window.
-fn settings(window_width: u32) -> u64 {
+fn settings(window_width: u32) -> u64
+    ensures { λ r. ⌜ r ≡ optionsRefusal (Options·options (defaults .«adaptive_threshold») (defaults .«min_duration») «window_width» (defaults .«min_content_val») (defaults .weights) (defaults .«kernel_size») (defaults .«initial_cut»)) ⌝ }
+{
     let o = Options::new();
     let settled = adaptive::try_new(o.with_window_width(window_width));
     settled.number as u64

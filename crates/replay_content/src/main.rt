@@ -1,12 +1,18 @@
 // Lists of content calls made by the generator: a digest for each batch of 256 lists, as compare/README.md states.
+ghost use mathlib.Core.Path.{_≡_};
+ghost use lib.ListN.{length, take};
+ghost use Rattle.replay.specs.Digest.{fed};
+ghost use Rattle.replay.specs.Generator.{after};
 use replay::Digest;
 
-// The first n bytes of out.
-fn fed(d: Digest, out: &[u8], n: usize) -> Digest {
+// The first n bytes of out, or all where there are fewer.
+fn feed_first(d: Digest, out: &[u8], n: usize) -> Digest
+    ensures { λ r. ⌜ r ≡ fed d (take n (now (out .entry))) ⌝ }
+{
     if n <= out.len() {
         return replay::feed(d, &out[..n]);
     }
-    d
+    replay::feed(d, out)
 }
 
 // A batch's digest and the generator's number after it.
@@ -15,14 +21,16 @@ struct Run {
     digest: Digest,
 }
 
-// One list.
-fn list(run: Run, script: &mut [u8], out: &mut [u8]) -> Run {
+// One list: the digest goes on with what the calls wrote down, and the generator by the bytes of the script.
+fn list(run: Run, script: &mut [u8], out: &mut [u8]) -> Run
+    ensures { λ r. ⌜ r .x ≡ after (length (now (script .entry))) (run .x) ⌝ }
+{
     let d = run.digest;
     let x = replay::fill(script, run.x, 0);
     let n = content_lists::run(script, out);
     Run {
         x,
-        digest: fed(d, out, n),
+        digest: feed_first(d, out, n),
     }
 }
 

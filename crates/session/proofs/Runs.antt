@@ -37,19 +37,21 @@ from-new r line store input out out′ s′ t w e q f =
 
 module _ (input out out′ : List ℕ) (s′ : State) (t w : ℕ) (f : Feeds fresh input out 17 s′ out′ t w) (g : Filled input out 17 t w) where
   -- no room for all of the input, or for its end
-  pub runs-short : (out″ : List ℕ) (n : ℕ) → t < length input → Runs input out out″ false n
-  runs-short out″ n less =
+  pub runs-short : (out″ : List ℕ) → t < length input → Runs input out out″ false 0
+  runs-short out″ less =
       record {
         text = λ e. absurd (true≢false (sym e));
         size = λ e. absurd (true≢false (sym e));
+        none = λ _. refl;
         room = λ _. omega (arith, g .full less, f .size, some-text fresh input t, lines-length input);
       }
 
-  pub runs-end : (out″ : List ℕ) (n : ℕ) → length input ≤ t → length out < 17 + w + 64 → Runs input out out″ false n
-  runs-end out″ n all less =
+  pub runs-end : (out″ : List ℕ) → length input ≤ t → length out < 17 + w + 64 → Runs input out out″ false 0
+  runs-end out″ all less =
       record {
         text = λ e. absurd (true≢false (sym e));
         size = λ e. absurd (true≢false (sym e));
+        none = λ _. refl;
         room = λ _. omega (arith, less, f .size, some-text fresh input t, lines-length input);
       }
 
@@ -66,6 +68,7 @@ module _ (input out out′ : List ℕ) (s′ : State) (t w : ℕ) (f : Feeds fre
             ∙ placed-next out 17 (17 + w) T (lastText s′) room (ap (λ (n : ℕ). 17 + n) size)
             ∙ ap (placed out 17) (rw last (all-lines input));
         size = λ _. omega (arith, size, h .size, ap length last, ap length (all-lines input), length-append T (lastText (fed fresh input)));
+        none = λ e. absurd (true≢false e);
         room = λ e. absurd (true≢false e);
       }
 
@@ -77,13 +80,15 @@ runs-output input out out′ out″ ok w room kept e r =
     record {
       text = λ y. r .text y ∙ rw e (placed-next out 0 17 header (linesText input) (omega arith) refl);
       size = λ y. r .size y ∙ sym size;
+      none = λ y. r .none y;
       room = λ y. omega (arith, r .room y, kept, size);
     }
 
-pub short-output : (input out out′ : List ℕ) (w : ℕ) → length out < 17 → IsOutput input out out′ false w
-short-output input out out′ w less =
+pub short-output : (input out out′ : List ℕ) → length out < 17 → IsOutput input out out′ false 0
+short-output input out out′ less =
     record {
       text = λ e. absurd (true≢false (sym e));
       size = λ e. absurd (true≢false (sym e));
+      none = λ _. refl;
       room = λ _. omega (arith, less);
     }

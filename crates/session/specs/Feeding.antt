@@ -1,13 +1,13 @@
 -- The session fed chunk by chunk: what is kept between two chunks of the input, and what each chunk brings.
 use mathlib.Core.Bool.{cond}
 use mathlib.Core.List.{List, [], _∷_, _++_}
-use Prim.Native.Nat.{ℕ, suc}
+use Prim.Native.Nat.{ℕ, suc, _+_, min}
 use lib.Dec.{eqb, ltb}
 use lib.ListN.{length}
 use Rattle.session.specs.Output.{Place, start, lineCall, after, lineText}
 
--- The place of the current line, and its bytes so far: of a line that is too long only the first 8,193 are held. "Over 8,192 bytes" gives
--- 16, so 8,192 bytes and one more tell that a line is too long.
+-- The place of the current line, and its bytes so far: of a line that is too long only the first 8,193 are held. More than 8,192
+-- bytes give 16 (RULES 11.3), so 8,192 bytes and one more tell that a line is too long.
 pub record State : Type 0 where
   pub place : Place
   pub held : List ℕ
@@ -42,6 +42,10 @@ lastText s = cond (eqb (length (s .held)) 0) [] (lineText (s .place .number) (li
 -- the state before the first byte
 abbrev pub fresh : State
 fresh = record { place = start; held = [] }
+
+-- the end of the chunk of `size` bytes that starts at place a of n bytes: their end where that comes first; of a size of 0, their end
+unfoldable pub chunkEnd : (a size n : ℕ) → ℕ
+chunkEnd a size n = cond (eqb size 0) n (min n (a + size))
 
 -- the text of chunks one after the other, and then the end of the input
 unfoldable pub chunksText : State → List (List ℕ) → List ℕ

@@ -1,4 +1,4 @@
--- Document 01, the session program: "for each line its number from 0", as the line's place among the lines, with no last number.
+-- RULES 11.7: a line's number as its place among the lines, with no last number.
 use mathlib.Core.List.{List, [], _∷_, _++_}
 use Prim.Native.Nat.{ℕ, suc}
 use Rattle.session.specs.Output.{Place, lineCall, after, lineText}

@@ -1,4 +1,4 @@
--- Document 01, the session program: from the bytes of the whole input to the bytes of the whole output.
+-- The session program (RULES 11): from the bytes of the whole input to the bytes of the whole output.
 use mathlib.Core.Bool.{cond}
 use mathlib.Core.List.{List, [], _∷_, _++_}
 use Prim.Native.Nat.{ℕ, suc}
@@ -17,7 +17,7 @@ use Rattle.decimal.specs.Parts.{parted}
 use Rattle.decimal.specs.Writing.{decimal, stampText}
 use Rattle.frame_line.specs.Line.{isFrame, fields, lineOf, lumaOf}
 
--- The parts between line feeds. "Nothing after the last line feed is no line", and an empty input has no line.
+-- The parts between line feeds (RULES 11.1): where nothing follows the last line feed there is no further line, so an empty input has none.
 unfoldable pub ended : List (List ℕ) → List (List ℕ)
 ended [] = []
 ended ([] ∷ []) = []
@@ -33,7 +33,7 @@ pub record Place : Type 0 where
   pub store : List ℕ
   pub number : ℕ
 
--- "It runs the content detector at default settings". The store is lent as zeros; its content cannot show, since the first frame of a
+-- A content detector at default settings (RULES 11.5). The store is lent as zeros; its content cannot show, since the first frame of a
 -- stretch is not scored.
 abbrev pub start : Place
 start = record { detector = fresh defaults; store = replicate 4096 0; number = 0 }
@@ -47,7 +47,7 @@ lineCall p line =
     (called (p .detector) (luma (lumaOf (fields line)) (lineOf line .width) (lineOf line .height) (lineOf line .width) (lineOf line .stamp) (memory (p .store) (replicate 9216 0) (replicate 1024 (pos 0)))))
     (record { answer = refusedAnswer (p .detector) 16; store = p .store })
 
--- "Its number from 0": each line's number is one more than that of the line before. That the last number of 64 bits stays is a decision
+-- RULES 11.6: each line's number is one more than that of the line before. That the last number of 64 bits stays is a decision
 -- (docs/DECISIONS.md); no input that a machine holds meets it (proofs/Numbers.antt).
 abbrev pub nextNumber : ℕ → ℕ
 nextNumber n = cond (ltb n 18446744073709551615) (suc n) n
@@ -56,12 +56,12 @@ unfoldable pub after : Place → List ℕ → Place
 after p line =
     record { detector = lineCall p line .answer .detector; store = lineCall p line .store; number = nextNumber (p .number) }
 
--- "cut or `-`"
+-- the cut or `-`
 abbrev pub cutText : MaybeTimestamp → List ℕ
 cutText None = 45 ∷ []
 cutText (At t) = stampText (t .micros)
 
--- "for each line its number from 0, answer, cut or `-`"; each line of the output ends in a line feed
+-- a line of the output (RULES 11.6): number, answer, cut or `-`, and a line feed
 unfoldable pub lineText : ℕ → Answer → List ℕ
 lineText number answer =
     decimal number ++ (44 ∷ (decimal (answer .number) ++ (44 ∷ (cutText (answer .cut) ++ (10 ∷ [])))))

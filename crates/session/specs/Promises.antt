@@ -35,11 +35,13 @@ pub record Ends (p : Place) (line out : List ℕ) (at : ℕ) (p′ : Place) (out
   pub text : out′ ≡ placed out at (lineText (p .number) (lineCall p line .answer))
   pub size : written ≡ length (lineText (p .number) (lineCall p line .answer))
 
--- The whole session: where there was room, the output of the input is written to the start of `out`; 64 bytes more than the output are
--- always room enough.
+-- The whole session: where there was room, the output of the input is written to the start of `out`, and its length is told. 64 bytes more
+-- than the output are always room enough; of less it is left open whether there was room. Where there was none, 0 is told, and the bytes
+-- of `out′` are left open: any are right.
 pub record IsOutput (input out out′ : List ℕ) (ok : Bool) (written : ℕ) : Type 0 where
   pub text : ok ≡ true → out′ ≡ placed out 0 (output input)
   pub size : ok ≡ true → written ≡ length (output input)
+  pub none : ok ≡ false → written ≡ 0
   pub room : ok ≡ false → length out < length (output input) + 64
 
 -- the same after the header's 17 bytes
@@ -49,4 +51,5 @@ linesText input = answers start (lines input)
 pub record Runs (input out out′ : List ℕ) (ok : Bool) (written : ℕ) : Type 0 where
   pub text : ok ≡ true → out′ ≡ placed out 17 (linesText input)
   pub size : ok ≡ true → written ≡ 17 + length (linesText input)
+  pub none : ok ≡ false → written ≡ 0
   pub room : ok ≡ false → length out < 17 + length (linesText input) + 64

@@ -1,5 +1,5 @@
-// The session program on slices: bytes of frame lines in, bytes of answers out. The input comes in chunks of any sizes; a session, the
-// line, the luma values and the store are handed back as they were left.
+// The session program on slices (RULES 11): bytes of frame lines in, bytes of answers out. The input comes in chunks of any sizes; a
+// session, the line, the luma values and the store are handed back as they were left.
 ghost use mathlib.Core.Path.{_≡_};
 ghost use mathlib.Core.Bool.{true};
 ghost use mathlib.Core.List.{[], _∷_, _++_};
@@ -9,13 +9,30 @@ ghost use Rattle.decimal.specs.Placed.{placed};
 ghost use Rattle.decimal.specs.Writing.{decimal};
 ghost use Rattle.frame_line.specs.Line.{isFrame, fields, lineOf, lumaOf};
 ghost use Rattle.session.specs.Output.{lineCall, after, nextNumber, cutText, lineText, header};
-ghost use Rattle.session.specs.Feeding.{hold, heldAfter, beforeFeed};
+ghost use Rattle.session.specs.Feeding.{hold, heldAfter, beforeFeed, chunkEnd};
 ghost use Rattle.session.specs.Sessions.{newSession, placeOf, stateOf, frameCallOf, heldLength};
 ghost use Rattle.session.specs.Promises.{Ends, Feeds, Filled, Finishes, Runs, IsOutput};
 use content::Answer;
 use content::Detector;
 use frame_line::FrameLine;
 use timestamp::MaybeTimestamp;
+
+// The bytes that are held of a line: one more than a frame line may have, so that a longer one is told.
+pub const HELD: usize = 8193;
+
+// The most pixels of a line's frame: so many luma values and magnitudes are lent.
+pub const PIXELS: usize = 1024;
+
+// The bytes of the store and of the scratch, enough for each frame of a line that 1 does not refuse.
+pub const STORE: usize = 4096;
+
+pub const SCRATCH: usize = 9216;
+
+// The bytes of the header.
+pub const HEADER: usize = 17;
+
+// The room that is asked for a line's text, which has at most 53 bytes.
+pub const ROOM: usize = 64;
 
 // What one chunk hands to the next: the detector, the number of the current line, and how many bytes of it the lent line holds.
 pub struct Session {
@@ -31,7 +48,7 @@ pub struct Fed {
     pub written: usize,
 }
 
-// What a whole session brings: whether `out` had room for the output, and how many bytes of it were written.
+// What a whole session brings: whether `out` had room for the output, and the output's length, 0 where there was no room.
 pub struct Whole {
     pub ok: bool,
     pub written: usize,
@@ -57,28 +74,10 @@ pub fn new() -> Session
 }
 
 // `frame,answer,cut` and a line feed.
-pub fn header() -> [u8; 17]
+pub fn header() -> [u8; HEADER]
     ensures { λ r. ⌜ r ≡ header ⌝ }
 {
-    [
-        102,
-        114,
-        97,
-        109,
-        101,
-        44,
-        97,
-        110,
-        115,
-        119,
-        101,
-        114,
-        44,
-        99,
-        117,
-        116,
-        10,
-    ]
+    *b"frame,answer,cut\n"
 }
 
 // The luma call of a frame line whose values are the first of `luma`. Any content of the scratch and of the magnitudes is right, before
@@ -87,9 +86,9 @@ fn call_frame(
     s: Session,
     f: FrameLine,
     luma: &[u8],
-    store: &mut [u8; 4096],
-    scratch: &mut [u8; 9216],
-    magnitudes: &mut [i32; 1024],
+    store: &mut [u8; STORE],
+    scratch: &mut [u8; SCRATCH],
+    magnitudes: &mut [i32; PIXELS],
 ) -> Answer
     requires { ⌜ (f .width * f .height ≤ 1024) × (length (now luma) ≡ 1024) ⌝ }
     ensures { λ r. ⌜ r ≡ frameCallOf s f (now (luma .entry)) (now (store .entry)) .answer ⌝ }
@@ -115,10 +114,10 @@ fn call_frame(
 fn call_line(
     s: Session,
     line: &[u8],
-    luma: &mut [u8; 1024],
-    store: &mut [u8; 4096],
-    scratch: &mut [u8; 9216],
-    magnitudes: &mut [i32; 1024],
+    luma: &mut [u8; PIXELS],
+    store: &mut [u8; STORE],
+    scratch: &mut [u8; SCRATCH],
+    magnitudes: &mut [i32; PIXELS],
 ) -> Answer
     ensures { λ r. ⌜ r ≡ lineCall (placeOf s (now (store .entry))) (now (line .entry)) .answer ⌝ }
     ensures { λ r. ⌜ now (store .exit) ≡ lineCall (placeOf s (now (store .entry))) (now (line .entry)) .store ⌝ }
@@ -137,7 +136,7 @@ fn put_cut(out: &mut [u8], at: usize, cut: MaybeTimestamp) -> usize
     ensures { λ r. ⌜ (now (out .exit) ≡ placed (now (out .entry)) at (cutText cut)) × (r ≡ at + length (cutText cut)) ⌝ }
 {
     match cut {
-        MaybeTimestamp::None => decimal::put_byte(out, at, 45),
+        MaybeTimestamp::None => decimal::put_byte(out, at, b'-'),
         MaybeTimestamp::At(t) => decimal::put_stamp(out, at, t),
     }
 }
@@ -148,7 +147,7 @@ fn put_field(out: &mut [u8], at: usize, n: u64) -> usize
     ensures { λ r. ⌜ (now (out .exit) ≡ placed (now (out .entry)) at (decimal n ++ (44 ∷ []))) × (r ≡ at + length (decimal n ++ (44 ∷ []))) ⌝ }
 {
     let e = decimal::put_number(out, at, n);
-    decimal::put_byte(out, e, 44)
+    decimal::put_byte(out, e, b',')
 }
 
 // The text of a line: number, answer, cut or `-`.
@@ -160,14 +159,14 @@ fn put_line(out: &mut [u8], at: usize, number: u64, a: Answer) -> usize
     let p = put_field(out, at, number);
     let q = put_field(out, p, a.number as u64);
     let e = put_cut(out, q, cut);
-    decimal::put_byte(out, e, 10)
+    decimal::put_byte(out, e, b'\n')
 }
 
 // The next line's number; the last number of 64 bits stays, which no input that a machine holds meets (proofs/Numbers.antt).
 fn next_number(n: u64) -> u64
     ensures { λ r. ⌜ r ≡ nextNumber n ⌝ }
 {
-    if n < 18446744073709551615 {
+    if n < u64::MAX {
         return n + 1;
     }
     n
@@ -178,10 +177,10 @@ fn end_line(
     s: Session,
     line: &[u8],
     held: usize,
-    luma: &mut [u8; 1024],
-    store: &mut [u8; 4096],
-    scratch: &mut [u8; 9216],
-    magnitudes: &mut [i32; 1024],
+    luma: &mut [u8; PIXELS],
+    store: &mut [u8; STORE],
+    scratch: &mut [u8; SCRATCH],
+    magnitudes: &mut [i32; PIXELS],
     out: &mut [u8],
     at: usize,
 ) -> Fed
@@ -210,7 +209,7 @@ fn keep(line: &mut [u8], n: usize, b: u8) -> usize
     requires { ⌜ (length (now line) ≡ 8193) × (n ≤ 8193) ⌝ }
     ensures { λ r. ⌜ (r ≤ 8193) × (take r (now (line .exit)) ≡ hold (take n (now (line .entry))) b) ⌝ }
 {
-    if n < 8193 {
+    if n < HELD {
         line[n] = b;
         return n + 1;
     }
@@ -227,7 +226,7 @@ fn hold_bytes(line: &mut [u8], held: usize, chunk: &[u8]) -> Held
     let mut i = 0;
     while i < chunk.len() {
         let b = chunk[i];
-        if b == 10 {
+        if b == b'\n' {
             return Held { length: n, at: i };
         }
         n = keep(line, n, b);
@@ -237,13 +236,13 @@ fn hold_bytes(line: &mut [u8], held: usize, chunk: &[u8]) -> Held
 }
 
 // The length that any record stands for.
-fn held_length(n: usize) -> usize
-    ensures { λ r. ⌜ r ≡ heldLength n ⌝ }
+fn held_length(told: usize) -> usize
+    ensures { λ r. ⌜ r ≡ heldLength told ⌝ }
 {
-    if n < 8193 {
-        return n;
+    if told < HELD {
+        return told;
     }
-    8193
+    HELD
 }
 
 // The bytes of the chunk up to its first line feed and that, or all of them.
@@ -251,10 +250,10 @@ fn feed_line(
     s: Session,
     chunk: &[u8],
     line: &mut [u8],
-    luma: &mut [u8; 1024],
-    store: &mut [u8; 4096],
-    scratch: &mut [u8; 9216],
-    magnitudes: &mut [i32; 1024],
+    luma: &mut [u8; PIXELS],
+    store: &mut [u8; STORE],
+    scratch: &mut [u8; SCRATCH],
+    magnitudes: &mut [i32; PIXELS],
     out: &mut [u8],
     at: usize,
 ) -> Fed
@@ -290,11 +289,11 @@ fn feed_line(
 fn feed_at(
     s: Session,
     chunk: &[u8],
-    line: &mut [u8; 8193],
-    luma: &mut [u8; 1024],
-    store: &mut [u8; 4096],
-    scratch: &mut [u8; 9216],
-    magnitudes: &mut [i32; 1024],
+    line: &mut [u8; HELD],
+    luma: &mut [u8; PIXELS],
+    store: &mut [u8; STORE],
+    scratch: &mut [u8; SCRATCH],
+    magnitudes: &mut [i32; PIXELS],
     out: &mut [u8],
     at: usize,
 ) -> Fed
@@ -306,7 +305,7 @@ fn feed_at(
     let mut a = 0;
     let mut w = 0;
     while a < chunk.len() {
-        if out.len() - (at + w) < 64 {
+        if out.len() - (at + w) < ROOM {
             return Fed {
                 session: state,
                 taken: a,
@@ -343,11 +342,11 @@ fn feed_at(
 pub fn feed(
     s: Session,
     chunk: &[u8],
-    line: &mut [u8; 8193],
-    luma: &mut [u8; 1024],
-    store: &mut [u8; 4096],
-    scratch: &mut [u8; 9216],
-    magnitudes: &mut [i32; 1024],
+    line: &mut [u8; HELD],
+    luma: &mut [u8; PIXELS],
+    store: &mut [u8; STORE],
+    scratch: &mut [u8; SCRATCH],
+    magnitudes: &mut [i32; PIXELS],
     out: &mut [u8],
 ) -> Fed
     ensures { λ r. ⌜ Feeds (stateOf s (now (line .entry)) (now (store .entry))) (now (chunk .entry)) (now (out .entry)) 0 (stateOf (r .session) (now (line .exit)) (now (store .exit))) (now (out .exit)) (r .taken) (r .written) ⌝ }
@@ -360,10 +359,10 @@ pub fn feed(
 fn finish_at(
     s: Session,
     line: &[u8],
-    luma: &mut [u8; 1024],
-    store: &mut [u8; 4096],
-    scratch: &mut [u8; 9216],
-    magnitudes: &mut [i32; 1024],
+    luma: &mut [u8; PIXELS],
+    store: &mut [u8; STORE],
+    scratch: &mut [u8; SCRATCH],
+    magnitudes: &mut [i32; PIXELS],
     out: &mut [u8],
     at: usize,
 ) -> Fed
@@ -391,21 +390,22 @@ fn finish_at(
 // magnitudes is right, before and after, and so are any bytes of `line` from the session's `length` on.
 pub fn finish(
     s: Session,
-    line: &[u8; 8193],
-    luma: &mut [u8; 1024],
-    store: &mut [u8; 4096],
-    scratch: &mut [u8; 9216],
-    magnitudes: &mut [i32; 1024],
-    out: &mut [u8; 64],
+    line: &[u8; HELD],
+    luma: &mut [u8; PIXELS],
+    store: &mut [u8; STORE],
+    scratch: &mut [u8; SCRATCH],
+    magnitudes: &mut [i32; PIXELS],
+    out: &mut [u8; ROOM],
 ) -> Fed
     ensures { λ r. ⌜ Finishes (stateOf s (now (line .entry)) (now (store .entry))) (now (out .entry)) 0 (stateOf (r .session) (now (line .entry)) (now (store .exit))) (now (out .exit)) (r .taken) (r .written) ⌝ }
 {
     finish_at(s, line, luma, store, scratch, magnitudes, out, 0)
 }
 
-// The end of the chunk of `size` bytes that starts at place a: of a size of 0, the end of the input.
+// The end of the chunk of `size` bytes that starts at place a of n bytes; of a size of 0, their end.
 fn chunk_end(a: usize, size: usize, n: usize) -> usize
     requires { ⌜ a < n ⌝ }
+    ensures { λ r. ⌜ r ≡ chunkEnd a size n ⌝ }
     ensures { λ r. ⌜ (a < r) × (r ≤ n) ⌝ }
 {
     if size == 0 {
@@ -422,11 +422,11 @@ fn feed_chunks(
     s: Session,
     input: &[u8],
     size: usize,
-    line: &mut [u8; 8193],
-    luma: &mut [u8; 1024],
-    store: &mut [u8; 4096],
-    scratch: &mut [u8; 9216],
-    magnitudes: &mut [i32; 1024],
+    line: &mut [u8; HELD],
+    luma: &mut [u8; PIXELS],
+    store: &mut [u8; STORE],
+    scratch: &mut [u8; SCRATCH],
+    magnitudes: &mut [i32; PIXELS],
     out: &mut [u8],
     at: usize,
 ) -> Fed
@@ -484,11 +484,11 @@ fn put_text(out: &mut [u8], text: &[u8])
 fn run_lines(
     input: &[u8],
     size: usize,
-    line: &mut [u8; 8193],
-    luma: &mut [u8; 1024],
-    store: &mut [u8; 4096],
-    scratch: &mut [u8; 9216],
-    magnitudes: &mut [i32; 1024],
+    line: &mut [u8; HELD],
+    luma: &mut [u8; PIXELS],
+    store: &mut [u8; STORE],
+    scratch: &mut [u8; SCRATCH],
+    magnitudes: &mut [i32; PIXELS],
     out: &mut [u8],
 ) -> Whole
     requires { ⌜ (now store ≡ replicate 4096 0) × (17 ≤ length (now out)) ⌝ }
@@ -504,19 +504,19 @@ fn run_lines(
         scratch,
         magnitudes,
         out,
-        17,
+        HEADER,
     );
-    let e = 17 + f.written;
+    let e = HEADER + f.written;
     if f.taken < input.len() {
         return Whole {
             ok: false,
-            written: e,
+            written: 0,
         };
     }
-    if out.len() - e < 64 {
+    if out.len() - e < ROOM {
         return Whole {
             ok: false,
-            written: e,
+            written: 0,
         };
     }
     let last = f.session;
@@ -527,23 +527,24 @@ fn run_lines(
     }
 }
 
-// The whole session: the output of the input, which is fed in chunks of `size` bytes. `out` with 64 bytes more than the output is long enough;
-// where it is shorter, `ok` may be false, and then any bytes of `out` are right.
+// The whole session: the output of the input, which is fed in chunks of `size` bytes (0: all of it at once). 64 bytes more than the output
+// are always room enough. Of a shorter `out` it is left open whether it has room: where `ok` is false, `written` is 0, and of the bytes of
+// `out` nothing is promised.
 pub fn run(input: &[u8], size: usize, out: &mut [u8]) -> Whole
     ensures { λ r. ⌜ IsOutput (now (input .entry)) (now (out .entry)) (now (out .exit)) (r .ok) (r .written) ⌝ }
 {
-    if out.len() < 17 {
+    if out.len() < HEADER {
         return Whole {
             ok: false,
             written: 0,
         };
     }
     put_text(out, &header());
-    let mut line = [0u8; 8193];
-    let mut luma = [0u8; 1024];
-    let mut store = [0u8; 4096];
-    let mut scratch = [0u8; 9216];
-    let mut magnitudes = [0i32; 1024];
+    let mut line = [0u8; HELD];
+    let mut luma = [0u8; PIXELS];
+    let mut store = [0u8; STORE];
+    let mut scratch = [0u8; SCRATCH];
+    let mut magnitudes = [0i32; PIXELS];
     run_lines(
         input,
         size,

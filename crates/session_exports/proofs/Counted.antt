@@ -22,4 +22,4 @@ counted input out out′ ok n e o =
 
 pub no-room : (input out out′ : List ℕ) (ok : Bool) (n : ℕ) → ok ≡ false → IsOutput input out out′ ok n → IsOutput input out out′ (ltb 0 0) 0
 no-room input out out′ ok n e o =
-    record { text = λ t. absurd (true≢false (sym t)); size = λ t. absurd (true≢false (sym t)); room = λ _. o .room e }
+    record { text = λ t. absurd (true≢false (sym t)); size = λ t. absurd (true≢false (sym t)); none = λ _. refl; room = λ _. o .room e }

@@ -64,7 +64,7 @@ same-length c =
     omega (arith, turn g .3, l .loop .inv .0)
 
 returns : tie.Need-returns Inv-loop μ-loop
-returns c = λ more. absurd (true≢false (sym more))
+returns c = (refl, λ wrote. absurd (true≢false (sym wrote)))
 
 add-a : tie.Need-add-a Inv-loop μ-loop
 add-a c =
@@ -97,7 +97,7 @@ returns-2 : tie.Need-returns-2 Inv-loop μ-loop
 returns-2 c =
     let l = c .before in
     let chunk = l .before .before .before .args .chunk .now in
-    λ _. rw (← take-all (l .loop .a) chunk (omega (arith, c .loop-test .left))) (l .loop .inv .2)
+    (refl, λ _. rw (← take-all (l .loop .a) chunk (omega (arith, c .loop-test .left))) (l .loop .inv .2))
 
 pub feed-chunk-spec : {M : Type 1} → statement M
 feed-chunk-spec =

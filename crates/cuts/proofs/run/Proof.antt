@@ -1,17 +1,20 @@
--- `cuts::run` is safe and ends: the measure is the number of turns that are left. Assumes nothing.
-use mathlib.Core.Path.{_≡_}
+-- `cuts::run` meets its contract, and ends: the measure is the number of reads that are left. Assumes nothing.
+use borrow.Author.Needs.{needs}
+use mathlib.Core.Path.{_≡_, sym}
+use mathlib.Core.Bool.{true≢false}
+use Prim.Native.Nat.{_-_, _≤_}
 use native.Mathlib.Omega.{arith}
 use lib.ListN.{length}
 use Rattle.cuts.proofs.run.Statement.{statement}
 use Rattle.cuts.proofs.run.Tie as tie
 
 abbrev Inv-loop : tie.InvT-loop
-Inv-loop line₀ luma₀ store₀ scratch₀ magnitudes₀ chunk₀ out₀ state₀ turns₀ line luma store scratch magnitudes chunk out state turns =
-    (length chunk ≡ length chunk₀) × (length out ≡ length out₀)
+Inv-loop line₀ luma₀ store₀ scratch₀ magnitudes₀ chunk₀ out₀ state₀ reads₀ line luma store scratch magnitudes chunk out state reads =
+    (length chunk ≡ length chunk₀) × (length out ≡ length out₀) × (reads ≤ 18446744073709551615)
 
 abbrev μ-loop : tie.MeasureT-loop
-μ-loop line₀ luma₀ store₀ scratch₀ magnitudes₀ chunk₀ out₀ state₀ turns₀ line luma store scratch magnitudes chunk out state turns =
-    turns
+μ-loop line₀ luma₀ store₀ scratch₀ magnitudes₀ chunk₀ out₀ state₀ reads₀ line luma store scratch magnitudes chunk out state reads =
+    18446744073709551615 - reads
 
 new-requires : tie.Need-new-requires Inv-loop μ-loop
 new-requires c κs = tt
@@ -31,6 +34,12 @@ kept c =
     let k = c .read-some .kept .1 .1 .1 .1 .1 .1 in
     (omega (arith, k .0, l .loop .inv .0), omega (arith, k .1 .0, l .loop .inv .1))
 
+add-reads : tie.Need-add-reads Inv-loop μ-loop
+add-reads c = search needs
+
+goes-on-requires : tie.Need-goes-on-requires Inv-loop μ-loop
+goes-on-requires c κs = tt
+
 same-length : tie.Need-same-length Inv-loop μ-loop
 same-length c = kept (c .before .before .before .before .before .before) .0
 
@@ -38,19 +47,16 @@ same-length-2 : tie.Need-same-length-2 Inv-loop μ-loop
 same-length-2 c = kept (c .before .before .before .before .before .before) .1
 
 returns : tie.Need-returns Inv-loop μ-loop
-returns c = tt
-
-sub-turns : tie.Need-sub-turns Inv-loop μ-loop
-sub-turns c = omega arith
+returns c = λ more. absurd (true≢false (sym more))
 
 loop-less : tie.Need-loop-less Inv-loop μ-loop
-loop-less c = omega arith
+loop-less c = let l = c .before .before .before .before .before .before .before .before .before .before .before .before .before .before .before in omega (arith, l .loop-test .taken)
 
 loop-again : tie.Need-loop-again Inv-loop μ-loop
-loop-again c = kept (c .before .before .before .before .before .before .before)
-
-say-unread-requires : tie.Need-say-unread-requires Inv-loop μ-loop
-say-unread-requires c κs = tt
+loop-again c =
+    let r = c .before .before .before .before .before .before .before in
+    let l = r .before .before .before .before .before .before .before .before in
+    (kept r .0, kept r .1, omega (arith, l .loop-test .taken))
 
 same-length-3 : tie.Need-same-length-3 Inv-loop μ-loop
 same-length-3 c = omega arith
@@ -59,7 +65,7 @@ same-length-4 : tie.Need-same-length-4 Inv-loop μ-loop
 same-length-4 c = omega arith
 
 returns-2 : tie.Need-returns-2 Inv-loop μ-loop
-returns-2 c = tt
+returns-2 c = λ _. omega (arith, c .loop-test .left, c .before .loop .inv .2)
 
 pub run-spec : {M : Type 1} → statement M
 run-spec =
@@ -70,13 +76,13 @@ run-spec =
     new-requires
     loop-holds
     read-some-requires
+    add-reads
+    goes-on-requires
     same-length
     same-length-2
     returns
-    sub-turns
     loop-less
     loop-again
-    say-unread-requires
     same-length-3
     same-length-4
     returns-2)

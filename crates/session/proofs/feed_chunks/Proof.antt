@@ -24,13 +24,13 @@ chunk-end-requires : tie.Need-chunk-end-requires Inv-loop μ-loop
 chunk-end-requires c κs = c .loop-test .taken
 
 sub-feed-at : tie.Need-sub-feed-at Inv-loop μ-loop
-sub-feed-at c = omega (arith, c .chunk-end .ensures .0)
+sub-feed-at c = omega (arith, c .chunk-end .ensures .1 .0)
 
 part-feed-at-start : tie.Need-part-feed-at-start Inv-loop μ-loop
-part-feed-at-start c = omega (arith, c .chunk-end .ensures .0)
+part-feed-at-start c = omega (arith, c .chunk-end .ensures .1 .0)
 
 part-feed-at-end : tie.Need-part-feed-at-end Inv-loop μ-loop
-part-feed-at-end c = c .chunk-end .ensures .1
+part-feed-at-end c = c .chunk-end .ensures .1 .1
 
 add-feed-at : tie.Need-add-feed-at Inv-loop μ-loop
 add-feed-at c =
@@ -47,7 +47,7 @@ turn c =
     let k = c .before .before .before .before .before .before .before .before in
     let l = k .before .before in
     let e = c .feed-at .ensures in (
-      omega (arith, e .0 .within, part-size (l .loop .a) (k .chunk-end .result) (l .before .before .before .args .input .now) (k .chunk-end .ensures .1)),
+      omega (arith, e .0 .within, part-size (l .loop .a) (k .chunk-end .result) (l .before .before .before .args .input .now) (k .chunk-end .ensures .1 .1)),
       omega (arith, e .1 .inside),
     )
 
@@ -58,14 +58,14 @@ add-w c =
     omega (arith, turn f .1, l .loop .inv .0, l .before .before .before .good .1 .1 .1 .1 .1 .1 .1 .1 .0 .0)
 
 sub-if1 : tie.Need-sub-if1 Inv-loop μ-loop
-sub-if1 c = let k = c .before .before .before .before .before .before .before .before .before .before .before .before in omega (arith, k .chunk-end .ensures .0)
+sub-if1 c = let k = c .before .before .before .before .before .before .before .before .before .before .before .before in omega (arith, k .chunk-end .ensures .1 .0)
 
 add-t30 : tie.Need-add-t30 Inv-loop μ-loop
 add-t30 c =
     let f = c .before .before .before .before .before .before .before in
     let k = f .before .before .before .before .before .before .before .before in
     let s = k .before .before .before .before .before in
-    omega (arith, turn f .0, k .chunk-end .ensures .0, k .chunk-end .ensures .1, s .good .1 .0 .0)
+    omega (arith, turn f .0, k .chunk-end .ensures .1 .0, k .chunk-end .ensures .1 .1, s .good .1 .0 .0)
 
 kept : (c : tie.After-feed-at Inv-loop μ-loop) → length (c .feed-at .last .1 .1 .1 .1 .1 .1 .1 .0) ≡ length (c .before .before .before .before .before .before .before .before .before .before .before .before .before .args .out .now)
 kept c = omega (arith, c .feed-at .kept .1 .1 .1 .1 .1 .1 .1 .0, c .before .before .before .before .before .before .before .before .before .before .loop .inv .0)
@@ -81,13 +81,13 @@ returns c =
     let s = l .before .before .before in
     let v = l .loop .inv in
     let e = f .feed-at .ensures in
-    let size = part-size (l .loop .a) (k .chunk-end .result) (s .args .input .now) (k .chunk-end .ensures .1) in (
+    let size = part-size (l .loop .a) (k .chunk-end .result) (s .args .input .now) (k .chunk-end .ensures .1 .1) in (
       feeds-to _ _ _ _ _ _ _ _ _ _ (k .chunk-end .result - l .loop .a) _ _ _ (s .pre) (v .2) (e .0) refl,
       record { inside = omega (arith, turn f .1, v .0); full = λ _. omega (arith, e .1 .full (omega (arith, size, c .before .if1 .taken)), v .0) },
     )
 
 loop-less : tie.Need-loop-less Inv-loop μ-loop
-loop-less c = let k = c .before .before .before .before .before .before .before .before .before .before .before .before .before .before in omega (arith, k .chunk-end .ensures .0, k .chunk-end .ensures .1)
+loop-less c = let k = c .before .before .before .before .before .before .before .before .before .before .before .before .before .before in omega (arith, k .chunk-end .ensures .1 .0, k .chunk-end .ensures .1 .1)
 
 loop-again : tie.Need-loop-again Inv-loop μ-loop
 loop-again c =
@@ -99,7 +99,7 @@ loop-again c =
       kept f,
       omega (arith, turn f .1, f .feed-at .kept .1 .1 .1 .1 .1 .1 .1 .0),
       feeds-to _ _ _ _ _ _ _ _ _ _ (k .chunk-end .result - l .loop .a) _ _ _ (s .pre) (v .2) (f .feed-at .ensures .0)
-          (omega (arith, turn f .0, c .if1 .left, k .chunk-end .ensures .0)),
+          (omega (arith, turn f .0, c .if1 .left, k .chunk-end .ensures .1 .0)),
     )
 
 same-length-2 : tie.Need-same-length-2 Inv-loop μ-loop

@@ -7,7 +7,7 @@ use Rattle.session.proofs.run.Statement.{statement}
 use Rattle.session.proofs.run.Tie as tie
 
 returns : tie.Need-returns
-returns c = short-output _ _ _ _ (c .if1 .taken)
+returns c = short-output _ _ _ (c .if1 .taken)
 
 header-requires : tie.Need-header-requires
 header-requires c κs = search needs

@@ -32,7 +32,7 @@ same-length : tie.Need-same-length
 same-length c = search needs
 
 returns : tie.Need-returns
-returns c = let f = c .before .before .before .before .before in runs-short _ _ _ _ _ _ (fed f) (f .feed-chunks .ensures .1) _ _ (c .if1 .taken)
+returns c = let f = c .before .before .before .before .before in runs-short _ _ _ _ _ _ (fed f) (f .feed-chunks .ensures .1) _ (c .if1 .taken)
 
 sub-if2 : tie.Need-sub-if2
 sub-if2 c = let f = c .before .before .before .before .before in omega (arith, f .feed-chunks .ensures .1 .inside, kept f)
@@ -43,7 +43,7 @@ same-length-2 c = search needs
 returns-2 : tie.Need-returns-2
 returns-2 c =
     let f = c .before .before .before .before .before .before in
-    runs-end _ _ _ _ _ _ (fed f) (f .feed-chunks .ensures .1) _ _ (c .before .if1 .left) (omega (arith, f .feed-chunks .ensures .1 .inside, kept f, c .if2 .taken))
+    runs-end _ _ _ _ _ _ (fed f) (f .feed-chunks .ensures .1) _ (c .before .if1 .left) (omega (arith, f .feed-chunks .ensures .1 .inside, kept f, c .if2 .taken))
 
 finish-at-requires : tie.Need-finish-at-requires
 finish-at-requires c κs = search needs
