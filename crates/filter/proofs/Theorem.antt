@@ -1,4 +1,4 @@
--- THE THEOREM: demand 3, as `specs/Claim.antt` states it, holds of every options and every list of calls from a fresh state. Assumes nothing.
+-- THE THEOREM: the spacing theorem for scored frames, as `specs/Claim.antt` states it, holds of every options and every list of calls from a fresh state. Assumes nothing.
 use mathlib.Core.Path.{_≡_, refl}
 use mathlib.Core.List.{List, [], _∷_}
 use Rattle.timestamp.specs.declared.MaybeTimestamp.{MaybeTimestamp}

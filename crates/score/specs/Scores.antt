@@ -1,4 +1,4 @@
--- Document 01, score: (h × wh + s × ws + l × wl + e × we) / sum of absolute weights, f64, left to right, each step rounded once.
+-- The score (RULES 6.2): (h × wh + s × ws + l × wl + e × we) / sum of absolute weights, f64, left to right, each step rounded once.
 use mathlib.Core.Bool.{Bool}
 use lib.Ieee.{Float, binary64, add, mul, div, ne}
 use Rattle.score.specs.declared.Components.{Components}

@@ -1,4 +1,4 @@
--- Document 01, "What the station reports", refusals 6 to 9 of settings.
+-- The refusals 6 to 9 of settings (RULES 10.1).
 use mathlib.Core.Bool.{Bool, false, not, _&&_, _||_}
 use mathlib.Core.List.{[], _∷_}
 use Prim.Native.Nat.{ℕ, _%_}

@@ -1,4 +1,4 @@
--- Demand 3 for adaptive calls: `Theorem` has it for every list of calls, `Acts` for a detector over the window. `Shifted`, `Pushed` and `Judged`: what
+-- The spacing theorem for adaptive calls: `Theorem` has it for every list of calls, `Acts` for a detector over the window. `Shifted`, `Pushed` and `Judged`: what
 -- a push makes of the window.
 pub mod Shifted
 pub mod Pushed

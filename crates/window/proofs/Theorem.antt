@@ -1,4 +1,4 @@
--- THE THEOREM: demand 3 for adaptive calls, as `specs/Claim.antt` states it, holds of every options and every list of calls from a fresh state.
+-- THE THEOREM: the spacing theorem for adaptive calls (RULES 14.12), as `specs/Claim.antt` states it, holds of every options and every list of calls from a fresh state.
 -- Assumes nothing.
 use mathlib.Core.Path.{_≡_, refl, ap}
 use mathlib.Core.List.{List, [], _∷_}
