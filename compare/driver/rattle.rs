@@ -1,4 +1,4 @@
-//! The Rattle side: the C functions of the crates `exports` and `session_exports`. A slice passes as its address and its length.
+//! The Rattle side: the C functions of the crates `compare_exports` and `compare_session`. A slice passes as its address and its length.
 
 mod c {
     unsafe extern "C" {

@@ -30,7 +30,7 @@ fn list(run: Run, script: &mut [u8], out: &mut [u8]) -> Run
 {
     let d = run.digest;
     let x = replay::fill(script, run.x, 0);
-    let n = adaptive_lists::run(script, out);
+    let n = compare_adaptive_lists::run(script, out);
     Run {
         x,
         digest: feed_first(d, out, n),

@@ -27,7 +27,7 @@ fn list(run: Run, script: &mut [u8], out: &mut [u8]) -> Run
 {
     let d = run.digest;
     let x = replay::fill(script, run.x, 0);
-    let n = content_lists::run(script, out);
+    let n = compare_content_lists::run(script, out);
     Run {
         x,
         digest: feed_first(d, out, n),
