@@ -23,7 +23,7 @@ options threshold minimum weights mode kernel initial =
 abbrev pub defaults : Options
 defaults = options (float 27) 1000000 defaultWeights Merge Auto true
 
--- what the filter reads of the settings
+-- what the filter reads of the settings (RULES 8.1)
 abbrev pub filterOptions : Options → FilterOptions
 filterOptions o = record { «filter_mode» = o .«filter_mode»; «min_duration» = o .«min_duration»; «initial_cut» = o .«initial_cut» }
 

@@ -25,7 +25,7 @@ stateOf o w h = record { options = o; stream = freshStream w h; filter = freshFi
 abbrev pub fresh : Options → Detector
 fresh o = stateOf o 0 0
 
--- a stamp that may be missing is missing
+-- there is no stamp here
 abbrev pub missing : MaybeTimestamp → Bool
 missing None = true
 missing (At t) = false

@@ -106,7 +106,7 @@ KeepsDistance d [] = Unit {0}
 KeepsDistance d (x ∷ []) = Unit {0}
 KeepsDistance d (x ∷ y ∷ ys) = ((x +ℤ pos d) ≤ℤ y) × KeepsDistance d (y ∷ ys)
 
--- stamps that never fall: none is before an earlier one
+-- stamps that never fall: none of the list is before one that stands earlier in it (RULES 14.10)
 abbrev pub NeverFall : List ℤ → Type 0
 NeverFall [] = Unit {0}
 NeverFall (x ∷ xs) = All (λ (y : ℤ). x ≤ℤ y) xs × NeverFall xs

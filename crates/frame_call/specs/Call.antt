@@ -52,7 +52,7 @@ callRefusal bad f m = firstThat ((bad, 15) ∷ (not (eqb f 0), f) ∷ (not (eqb 
 abbrev pub frameNumber : (bad : Bool) (refusal width height : ℕ) → Memory → ℕ
 frameNumber bad u w h m = callRefusal bad u (memoryRefusal (length (m .store)) (length (m .scratch)) (length (m .magnitudes)) w h)
 
--- what a call brings: an answer, and the store after it
+-- what a call brings: its answer, and the store after it (RULES 8.4)
 pub record Outcome (A : Type 0) : Type 0 where
   pub answer : A
   pub store : List ℕ

@@ -12,7 +12,7 @@ use Rattle.frame_call.specs.Call.{Call, byCall, frameNumber, Outcome}
 abbrev pub ownNumber : Call → ℕ
 ownNumber c = byCall (λ u w h p ts m. frameNumber false u w h m) 0 c
 
--- a call that is refused by its own number
+-- a call that is refused by its own number, whatever the state; the claim leaves such calls out (RULES 14.6)
 abbrev pub isRefused : Call → Bool
 isRefused c = not (eqb (ownNumber c) 0)
 

@@ -33,8 +33,8 @@ abbrev pub badKernel : KernelSize → Bool
 badKernel Auto = false
 badKernel (Set k) = ltb k 3 || eqb (k % 2) 0
 
--- the first of 6 to 9 that holds, or 0. 9 is a threshold or `min_content_val` that is NaN: each detector says by `nan` whether one of its own
--- is.
+-- the first of 6 to 9 that holds, or 0 (RULES 10.1, 10.5). 9 is a threshold or `min_content_val` that is NaN: each detector says by `nan`
+-- whether one of its own is.
 unfoldable pub settingsRefusal : Components → KernelSize → Bool → ℕ
 settingsRefusal weights kernel nan =
     firstThat ((anyTooHeavy weights, 6) ∷ (allZero weights, 7) ∷ (badKernel kernel, 8) ∷ (nan, 9) ∷ [])

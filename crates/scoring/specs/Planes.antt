@@ -12,7 +12,7 @@ pub record Planes : Type 0 where
   pub saturation : List ℕ
   pub luma : List ℕ
 
--- n bytes 0
+-- a plane of n bytes that is 0 throughout (RULES 2.7)
 abbrev pub zeros : ℕ → List ℕ
 zeros n = tabulate n (λ _. 0)
 

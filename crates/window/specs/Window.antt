@@ -101,7 +101,7 @@ targetScore o s = getD (s .scores) (o .«window_width») nan
 unfoldable pub average : WindowOptions → (sum target : Float) → Float
 average o sum target = div binary64 (sub binary64 sum target) (float (others o))
 
--- 1e-5, the f64 nearest to it
+-- 1e-5, the f64 nearest to it (RULES 9.8)
 abbrev pub tiny : Float
 tiny = div binary64 (float 1) (float 100000)
 
