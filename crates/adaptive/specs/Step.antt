@@ -1,4 +1,4 @@
--- What the adaptive detector answers: to an accepted frame, by the stream after it, and to any call.
+-- What the adaptive detector answers to an accepted frame, by the stream after it, and to any call (RULES 9.2, 9.4, 9.11).
 use Rattle.timestamp.specs.declared.Timestamp.{Timestamp}
 use Rattle.score.specs.declared.MaybeScore.{MaybeScore}
 use Rattle.score.specs.declared.MaybeScore.the-variants.{None as noScore, Some as someScore}
@@ -14,19 +14,20 @@ use Rattle.adaptive.specs.declared.Answer.{Answer}
 use Rattle.adaptive.specs.Options.{windowOptions, pictureOptions}
 use Rattle.adaptive.specs.State.{badState, refusedAnswer, clearedAnswer}
 
--- A frame's score is pushed. The first frame of a stretch, which has none, leaves the window as it is: a change of size keeps it, with the
--- last cut, ratio and target score, and only `clear` drops it.
+-- The score of a scored frame is pushed with its stamp. The first frame of a stretch, which has none, leaves the window as it is (RULES 9.4): a
+-- change of size keeps it, with the last cut or seed, the ratio and the target score, and only `clear` drops it (RULES 9.11).
 abbrev pub windowStep : Options → Window → Timestamp → MaybeScore → WindowStep
 windowStep o s ts noScore = unchanged s
 windowStep o s ts (someScore x) = pushAndCheck (windowOptions o) s ts x
 
--- the answer to an accepted frame, by its stamp and the stream after it
+-- the answer to an accepted frame, by its stamp and the stream after it, which has its score as the content detector scores it (RULES 9.2): 0,
+-- the new state, the cut or none, the score or none, and the components (RULES 8.4)
 unfoldable pub stepped : Detector → Timestamp → Stream → Answer
 stepped d ts s =
     let step : WindowStep = windowStep (d .options) (d .window) ts (s .«last_score») in
     let after : Detector = record { options = d .options; stream = s; window = step .window } in
     record { number = 0; detector = after; cut = step .cut; score = s .«last_score»; components = componentsShown (s .«last_components») }
 
--- a call: what it answers, with the state that it returns, and the store after it
+-- a call: its answer, with the state that it returns, and the store after it (RULES 8.4, 10.3)
 abbrev pub called : Detector → Call → Outcome Answer
 called d c = outcomeOf (d .stream) (pictureOptions (d .options)) (badState d) (stepped d) (refusedAnswer d) (clearedAnswer d) c

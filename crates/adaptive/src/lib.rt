@@ -1,6 +1,6 @@
-// The adaptive detector without its pixels: options, the state record, settings, the step of an accepted frame, `clear` and the
-// readers. Values go in and come out. The inner detector's settings are made from the outer ones and not held, and of its state only
-// the stream is kept: its filter can't be observed, with an infinite threshold.
+// The adaptive detector without its pixels (RULES 9): options, the state record, settings, the step of an accepted frame, `clear` and the
+// readers. Values go in and come out. The inner detector's settings are made from the outer ones and not held (RULES 9.2), and of its state
+// only the stream is kept: its filter cannot be observed, with an infinite threshold.
 ghost use mathlib.Core.Path.{_≡_};
 ghost use mathlib.Core.Bool.{_||_};
 ghost use lib.Ieee.{isNan};

@@ -1,4 +1,5 @@
--- compare/README.md, "Lists of content calls": what a frame call is lent, and which bytes of the planes it renews.
+-- What a frame call is lent, and which bytes of the planes it renews (compare/README.md, "Lists of content calls"): a part of the comparison
+-- with the Rust (RULES 14.3). r[k] is byte k of the call's record.
 use mathlib.Core.Bool.{Bool, cond}
 use mathlib.Core.List.{List, _++_}
 use Prim.Native.Nat.{ℕ, _+_, _*_, _-_, _/_, _%_, min, max}
@@ -16,11 +17,11 @@ use Rattle.compare_lists.specs.Records.{byteOf}
 unfoldable pub areaOf : (w h : ℕ) → ℕ
 areaOf w h = cond (leb w 128) (cond (leb h 41) (w * h) 0) 0
 
--- "faults, where r[13] % 4 is 0, by the bits of r[14] & r[15]"
+-- the faults of a call: where r[13] % 4 is 0, the bits of r[14] & r[15], otherwise none
 unfoldable pub faultsOf : List ℕ → ℕ → ℕ
 faultsOf s i = cond (eqb (byteOf s i 13 % 4) 0) (bitAnd (byteOf s i 14) (byteOf s i 15)) 0
 
--- "each length that is lent is what is needed and 0 to 3 more", or "one short"
+-- a length that is lent: what is needed and 0 to 3 more, or one short of it
 unfoldable pub lentOf : (need more : ℕ) (short : Bool) → ℕ
 lentOf need more short = cond short (need - 1) (need + more % 4)
 
@@ -28,7 +29,7 @@ lentOf need more short = cond short (need - 1) (need + more % 4)
 unfoldable pub leastOf : (kind width : ℕ) → ℕ
 leastOf kind width = cond (leb kind 10) (min width 40) (cond (leb kind 20) (3 * min width 40) (min width 40))
 
--- "padding 0 for r[6] below 128, else r[6] % 4"
+-- the padding of a row, by the byte r[6]: 0 where it is below 128, otherwise r[6] % 4
 unfoldable pub paddingOf : ℕ → ℕ
 paddingOf b = cond (leb 128 b) (b % 4) 0
 
@@ -59,21 +60,22 @@ numbersOf size s i =
     (leastOf (byteOf s i 0 % 32) (size .width))
     (leastOf (byteOf s i 0 % 32) (size .width) + paddingOf (byteOf s i 6))
 
--- how many bytes of each plane are renewed: "none for r[9] % 4 = 0, at most r[10] for 1, else as many as are needed"
+-- how many bytes of each plane are renewed, by the kind r[9] % 4 and the byte r[10]: none for 0, at most r[10] for 1, otherwise as many as are
+-- needed
 unfoldable pub renewedBy : (need kind b : ℕ) → ℕ
 renewedBy need kind b = cond (eqb kind 0) 0 (cond (eqb kind 1) (min need b) need)
 
 abbrev pub countOf : (need : ℕ) → List ℕ → ℕ → ℕ
 countOf need s i = renewedBy need (byteOf s i 9 % 4) (byteOf s i 10)
 
--- "x = 256 × r[11] + r[12]"
+-- where the generator starts: x = 256 × r[11] + r[12]
 abbrev pub startOf : List ℕ → ℕ → ℕ
 startOf s i = byteOf s i 11 * 256 + byteOf s i 12
 
 abbrev pub kindOf : List ℕ → ℕ → ℕ
 kindOf s i = byteOf s i 8 % 8
 
--- n bytes from x: kinds "0 to 3 a generated run of that kind ..; else one byte of the generator throughout"
+-- n bytes from x: for the kinds 0 to 3 a generated run of that kind, otherwise one byte of the generator throughout
 unfoldable pub renewal : (n x kind : ℕ) → List ℕ
 renewal n x kind = cond (leb kind 3) (shades n x kind) (tabulate n (λ k. drawn (nextOf x)))
 

@@ -1,4 +1,5 @@
--- compare/README.md, "Lists of content calls": what the bytes of a list's records say of settings, sizes and stamps.
+-- What the bytes of a list's records say of settings, sizes and stamps (compare/README.md, "Lists of content calls"): a part of the comparison
+-- with the Rust (RULES 14.3). r[k] is byte k of the record, which for settings is record 0 and for a call its own.
 use mathlib.Core.Bool.{Bool, true, false, cond}
 use mathlib.Core.List.{List, [], _∷_}
 use Prim.Native.Nat.{ℕ, _+_, _*_, _-_, _/_, _%_}
@@ -19,7 +20,7 @@ use Rattle.compare_lists.specs.declared.input.Size.{Size}
 unfoldable pub byteOf : List ℕ → (i k : ℕ) → ℕ
 byteOf s i k = cond (leb (length s / 16) i) 0 (cond (leb 16 k) 0 (getD s (i * 16 + k) 0))
 
--- "0 NaN, 1 and 2 the infinities, 3 -0.0, 4 27, else" the other
+-- a threshold by its kind: NaN for 0, the infinities for 1 and 2, -0.0 for 3, 27 for 4, otherwise the other
 unfoldable pub thresholdOf : ℕ → Float → Float
 thresholdOf kind other =
     cond
@@ -33,7 +34,7 @@ thresholdOf kind other =
     (inf true)
     (cond (eqb kind 3) (ofBits binary64 9223372036854775808) (cond (eqb kind 4) (float 27) other))))
 
--- "place b % 14 of 0, -0.0, 1, -1, 0.5, 0.1, 0.2, 0.3, 0.7, 2, -3.25, 2^20, -2^20, 1e-300", as their bits
+-- the weights of the list, as their bits: 0, -0.0, 1, -1, 0.5, 0.1, 0.2, 0.3, 0.7, 2, -3.25, 2^20, -2^20, 1e-300
 unfoldable pub weightList : List Float
 weightList =
     ofBits binary64 0
@@ -52,7 +53,7 @@ weightList =
     ∷ ofBits binary64 118622047889322841
     ∷ []
 
--- "weight(b): 252 NaN, 253 and 254 the infinities, 255 2^20 + 1, else" one of the list
+-- the weight of a byte b: NaN for 252, the infinities for 253 and 254, 2^20 + 1 for 255, otherwise the one at place b % 14 of the list
 unfoldable pub weightOf : ℕ → Float
 weightOf b =
     cond
@@ -60,7 +61,8 @@ weightOf b =
     nan
     (cond (eqb b 253) (inf false) (cond (eqb b 254) (inf true) (cond (eqb b 255) (float 1048577) (getD weightList (b % 14) nan))))
 
--- "by r[2] % 8: 0 the default, 1 luma only, 2 (1, 1, 1, e), 3 (0, -0.0, 0, e), else weight(r[3]) to weight(r[5]) and e, where e is weight(r[6])"
+-- the weights by r[2] % 8, where e is the weight of r[6]: the default for 0, luma alone for 1, (1, 1, 1, e) for 2, (0, -0.0, 0, e) for 3,
+-- otherwise the weights of r[3], r[4] and r[5], and e
 unfoldable pub weightsOf : List ℕ → Components
 weightsOf s =
     cond
@@ -77,14 +79,14 @@ weightsOf s =
     (components (float 0) (ofBits binary64 9223372036854775808) (float 0) (weightOf (byteOf s 0 6)))
     (components (weightOf (byteOf s 0 3)) (weightOf (byteOf s 0 4)) (weightOf (byteOf s 0 5)) (weightOf (byteOf s 0 6))))))
 
--- "by r[8] % 8: 0 to 3 not set, 4 2^32 - 1, 5 r[9], else 2 × (r[9] % 32) + 1"
+-- k by its kind, r[8] % 8, and the byte r[9]: not set for 0 to 3, 2^32 - 1 for 4, the byte for 5, otherwise 2 × (byte % 32) + 1
 unfoldable pub kernelBy : (kind b : ℕ) → KernelSize
 kernelBy kind b = cond (leb kind 3) Auto (cond (eqb kind 4) (Set 4294967295) (cond (eqb kind 5) (Set b) (Set (2 * (b % 32) + 1))))
 
 abbrev pub kernelOf : List ℕ → KernelSize
 kernelOf s = kernelBy (byteOf s 0 8 % 8) (byteOf s 0 9)
 
--- "by r[10] % 16: 0 0, 1 1, 2 1,000,000, 3 2^64 - 1, else r[11] × 1000"
+-- the minimum by r[10] % 16: 0 for 0, 1 for 1, 1,000,000 for 2, 2^64 - 1 for 3, otherwise r[11] × 1000
 unfoldable pub minimumOf : List ℕ → ℕ
 minimumOf s =
     cond
@@ -98,22 +100,23 @@ minimumOf s =
     1000000
     (cond (eqb (byteOf s 0 10 % 16) 3) 18446744073709551615 (byteOf s 0 11 * 1000))))
 
--- "where r[7] / 2 is even"
+-- `initial_cut` is on where r[7] / 2 is even
 abbrev pub initialCut : List ℕ → Bool
 initialCut s = eqb (byteOf s 0 7 / 2 % 2) 0
 
--- "side(b) is b % 13 for b below 192, else b % 41"
+-- the side of a byte b: b % 13 for b below 192, otherwise b % 41
 unfoldable pub sideOf : ℕ → ℕ
 sideOf b = cond (leb 192 b) (b % 41) (b % 13)
 
 abbrev pub firstSize : List ℕ → Size
 firstSize s = record { width = sideOf (byteOf s 0 12); height = sideOf (byteOf s 0 13) }
 
--- "where r[3] % 16 is 0, the size becomes side(r[4]) × side(r[5])"
+-- the size of a call: where r[3] % 16 is 0, the sides of r[4] and r[5], otherwise that of the call before
 unfoldable pub nextSize : Size → List ℕ → ℕ → Size
 nextSize size s i = cond (eqb (byteOf s i 3 % 16) 0) (record { width = sideOf (byteOf s i 4); height = sideOf (byteOf s i 5) }) size
 
--- "By r[1] % 32: 0 it becomes 2^64 - 1, 1 0, 2 2^63 - 1; 3 to 6 it grows .. else it falls ..; where that leaves 64 bits it stays"
+-- the clock by its kind, r[1] % 32: 2^64 - 1 for 0, 0 for 1, 2^63 - 1 for 2; for 3 to 6 it grows by the step, otherwise it falls by it; where
+-- that leaves 64 bits it stays
 unfoldable pub turnedTo : (clock kind step : ℕ) → ℕ
 turnedTo clock kind step =
     cond
@@ -133,10 +136,10 @@ turnedTo clock kind step =
 abbrev pub nextClock : (clock : ℕ) → List ℕ → ℕ → ℕ
 nextClock clock s i = turnedTo clock (byteOf s i 1 % 32) (byteOf s i 2 * 1000)
 
--- "the stamp is 2^63 - 1 - clock"
+-- the stamp is 2^63 - 1 less the clock
 abbrev pub stampOf : ℕ → Timestamp
 stampOf clock = saturatingSub (record { micros = pos 9223372036854775807 }) clock
 
--- "Where r[13] % 32 is 1, a bad record is handed in"
+-- a bad record is handed in where r[13] % 32 is 1
 abbrev pub isForeign : List ℕ → ℕ → Bool
 isForeign s i = eqb (byteOf s i 13 % 32) 1

@@ -1,4 +1,4 @@
--- What the content detector answers: to an accepted frame, by the stream after it, and to any call.
+-- What the content detector answers to an accepted frame, by the stream after it, and to any call (RULES 8.4 to 8.6).
 use lib.Ieee.{le}
 use Rattle.timestamp.specs.declared.Timestamp.{Timestamp}
 use Rattle.timestamp.specs.declared.MaybeTimestamp.the-variants.{None}
@@ -16,19 +16,20 @@ use Rattle.content.specs.declared.Answer.{Answer}
 use Rattle.content.specs.Options.{filterOptions, pictureOptions}
 use Rattle.content.specs.State.{badState, refusedAnswer, clearedAnswer}
 
--- A frame with a score goes to the filter, above where its score is at or over the threshold. The first frame of a stretch, which has none,
--- gives no cut and does not seed the filter.
+-- A frame with a score goes to the filter, and it is above when its score is at or over the threshold (RULES 6.7). The first frame of a
+-- stretch, which has none, gives no cut and leaves a fresh filter, not yet seeded (RULES 6.5, 8.5).
 abbrev pub filterStep : Options → Filter → Timestamp → MaybeScore → FilterStep
 filterStep o φ ts noScore = record { filter = freshFilter; cut = None }
 filterStep o φ ts (someScore x) = flashFilter (filterOptions o) φ ts (le (o .threshold) x)
 
--- the answer to an accepted frame, by its stamp and the stream after it
+-- the answer to an accepted frame, by its stamp and the stream after it: 0, the new state, the cut or none, the score or none, and the
+-- components (RULES 8.4). Settings are the record's own (RULES 8.6).
 unfoldable pub stepped : Detector → Timestamp → Stream → Answer
 stepped d ts s =
     let step : FilterStep = filterStep (d .options) (d .filter) ts (s .«last_score») in
     let after : Detector = record { options = d .options; stream = s; filter = step .filter } in
     record { number = 0; detector = after; cut = step .cut; score = s .«last_score»; components = componentsShown (s .«last_components») }
 
--- a call: what it answers, with the state that it returns, and the store after it
+-- a call: its answer, with the state that it returns, and the store after it (RULES 8.4, 10.3)
 abbrev pub called : Detector → Call → Outcome Answer
 called d c = outcomeOf (d .stream) (pictureOptions (d .options)) (badState d) (stepped d) (refusedAnswer d) (clearedAnswer d) c

@@ -1,5 +1,5 @@
-// The content detector without its pixels: options, the state record, settings, the step of an accepted frame, `clear` and the
-// readers. Values go in and come out. The frame calls are in the crate `content_frames`.
+// The content detector without its pixels (RULES 8): options, the state record, settings, the step of an accepted frame, `clear` and
+// the readers. Values go in and come out. The frame calls are in the crate `content_frames`.
 ghost use mathlib.Core.Path.{_≡_};
 ghost use Rattle.content.specs.Options.{options, defaults, filterOptions, pictureOptions, optionsRefusal};
 ghost use Rattle.content.specs.State.{fresh, missing, badFilter, badState, settled, refusedAnswer, clearedAnswer};

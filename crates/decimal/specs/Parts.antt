@@ -9,7 +9,7 @@ abbrev pub withFirst : ℕ → List (List ℕ) → List (List ℕ)
 withFirst b [] = (b ∷ []) ∷ []
 withFirst b (part ∷ parts) = (b ∷ part) ∷ parts
 
--- the parts of a text between the bytes c: one part more than it has such bytes
+-- the parts of a text between the bytes c: one part more than it has such bytes (RULES 11.1, 11.2)
 unfoldable pub parted : ℕ → List ℕ → List (List ℕ)
 parted c [] = [] ∷ []
 parted c (b ∷ bs) = cond (eqb b c) ([] ∷ parted c bs) (withFirst b (parted c bs))

@@ -1,4 +1,4 @@
--- What a writer promises of its memory.
+-- What a writer of the output's text (RULES 11.6) promises of its memory.
 use mathlib.Core.List.{List, _++_}
 use Prim.Native.Nat.{ℕ}
 use lib.ListN.{length, take, drop}

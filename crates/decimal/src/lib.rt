@@ -1,4 +1,4 @@
-// Decimal numbers and stamps, read from text and written as text (RULES 11.2).
+// Decimal numbers and stamps, read from text (RULES 11.2) and written as text (RULES 11.6).
 ghost use mathlib.Core.Path.{_≡_};
 ghost use mathlib.Core.Bool.{_&&_};
 ghost use mathlib.Core.List.{[], _∷_};

@@ -1,4 +1,4 @@
-// The flash filter of `content.rs`: which scored frames become cuts.
+// The filter (RULES 7), which is the flash filter of the Rust's content.rs: which scored frames of a stretch are cuts.
 ghost use mathlib.Core.Bool.{true, false};
 ghost use mathlib.Core.Path.{_≡_};
 ghost use Rattle.filter.specs.Flash.{fresh, virtualSeed, seeded, minLengthMet, stepTo, suppressed, numMerged, mergeHeld, mergeFree, advanced, filterMerge, flashFilter};

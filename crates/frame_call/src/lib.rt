@@ -1,5 +1,6 @@
-// What a frame is to either detector, the same for both: refused by the first number that applies, or its planes, the sums of their
-// differences with the last frame's, the stream after it with its score, and the store after it. A detector adds its step.
+// What a frame is to either detector, the same for both: refused by the first number that applies (RULES 10.5), or its planes, the sums of
+// their differences with the last frame's, the stream after it with its score, and the store after it (RULES 8.4, 12.3). A detector adds
+// its step.
 ghost use mathlib.Core.Path.{_≡_};
 ghost use Prim.Native.Nat.{_+_, _*_, _≤_};
 ghost use lib.ListN.{length};

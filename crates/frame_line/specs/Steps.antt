@@ -1,4 +1,4 @@
--- A line taken field by field: where a field ends, what stands in it, and the fields after it.
+-- A frame line taken field by field (RULES 11.2): where a field ends, what stands in it, and the fields after it.
 use mathlib.Core.Bool.{Bool, false, cond}
 use mathlib.Core.List.{List, [], _∷_}
 use Prim.Native.Nat.{ℕ, suc, _+_, _-_}
@@ -13,15 +13,15 @@ unfoldable pub toComma : List ℕ → ℕ
 toComma [] = 0
 toComma (b ∷ bs) = cond (eqb b 44) 0 (suc (toComma bs))
 
--- where the field that starts at `at` ends
+-- where the field that starts at `at` ends: at the next comma, or at the end of the line
 unfoldable pub endOf : List ℕ → ℕ → ℕ
 endOf line at = at + toComma (drop at line)
 
--- that field
+-- the field that starts at `at`
 abbrev pub fieldAt : List ℕ → ℕ → List ℕ
 fieldAt line at = take (endOf line at - at) (drop at line)
 
--- the fields after one that ends at e
+-- the fields after the one that ends at e
 unfoldable pub fieldsAfter : List ℕ → ℕ → List (List ℕ)
 fieldsAfter line e = cond (ltb e (length line)) (fields (drop (e + 1) line)) []
 
@@ -29,7 +29,7 @@ fieldsAfter line e = cond (ltb e (length line)) (fields (drop (e + 1) line)) []
 abbrev pub fieldIf : Bool → ℕ → ℕ → Field
 fieldIf is n e = record { ok = is; value = cond is n 0; «end» = e }
 
--- the number of at most `most` in the field after one that ends at e
+-- the number of at most `most` in the field after the one that ends at e
 unfoldable pub nextNumber : ℕ → List ℕ → ℕ → Field
 nextNumber most line e =
     cond

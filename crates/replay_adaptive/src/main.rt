@@ -1,4 +1,5 @@
-// Lists of adaptive calls made by the generator: a digest for each batch of 256 lists, as compare/README.md states. Then sample rows.
+// Lists of adaptive calls made by the generator, for the comparison with the Rust (RULES 14.3): a digest for each batch of 256 lists, as
+// compare/README.md states. Then sample rows (RULES 13.2).
 mod samples;
 
 ghost use Prim.Native.Nat.{_≤_};

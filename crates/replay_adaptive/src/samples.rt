@@ -1,4 +1,4 @@
-// The window rows of RULES 13.2, and an average of exactly 1e-5. The frames are luma of 1 x 1.
+// The sample rows of the adaptive window (RULES 13.2), and an average of exactly 1e-5 (RULES 9.8). The frames are luma of 1 x 1.
 ghost use mathlib.Core.Path.{_≡_};
 ghost use Rattle.adaptive.specs.Options.{defaults};
 ghost use Rattle.adaptive.specs.Options.{options as Options·options};

@@ -1,4 +1,4 @@
--- compare/README.md, "Replays": the lists of `replay_filter`.
+-- The lists of calls that `replay_filter` makes (compare/README.md, "Replays"): a part of the comparison with the Rust (RULES 14.3).
 use mathlib.Core.Bool.{Bool, cond}
 use mathlib.Core.List.{List, [], _∷_}
 use Prim.Native.Nat.{ℕ, zero, suc, _+_, _*_, _%_}
@@ -25,7 +25,7 @@ use Rattle.replay.specs.Generator.{nextOf, byteOf}
 use Rattle.replay_filter.specs.declared.Run.{Run}
 use Rattle.replay_filter.specs.Answers.{answerFed}
 
--- the settings by four draws
+-- the settings of a list (RULES 8.1), by four draws
 abbrev pub modeOf : ℕ → FilterMode
 modeOf b = cond (eqb (b % 2) 0) Suppress Merge
 
@@ -42,7 +42,7 @@ minimumOf b =
 abbrev pub optionsOf : ℕ → ℕ → ℕ → ℕ → Options
 optionsOf b1 b2 b3 b4 = options (float 27) (minimumOf b4) (weightsOf b3) (modeOf b1) Auto (eqb (b2 % 2) 1)
 
--- a frame of action 1 has a stride of 0
+-- the stride of a frame, by its action: 0 for action 1, which is refused by 2 (RULES 2.6), otherwise 1
 abbrev pub strideOf : ℕ → ℕ
 strideOf action = cond (eqb action 1) 0 1
 
@@ -54,7 +54,7 @@ answeredOf d action value ts store scratch magnitudes =
     (record { answer = clearedAnswer d; store = store })
     (called d (luma (value ∷ []) 1 1 (strideOf action) ts (memory store (replicate scratch 0) (replicate magnitudes (pos 0)))))
 
--- a stamp by its place
+-- a stamp by its place among sixteen
 abbrev pub stampOf : ℕ → Timestamp
 stampOf place =
     record {
@@ -81,7 +81,7 @@ stampOf place =
           (pos 0);
     }
 
--- how far the place moves
+-- how far the place of the stamp moves from one call to the next
 abbrev pub movedBy : ℕ → Bool → ℕ
 movedBy b wide = cond wide (b % 16) (b % 4)
 

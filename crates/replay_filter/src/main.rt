@@ -1,5 +1,5 @@
 // Lists of calls of the content detector with 1 × 1 luma frames that score high or 0: its answers, cuts and scores, as
-// digests. compare/README.md states the lists.
+// digests, for the comparison with the Rust (RULES 14.3). compare/README.md states the lists.
 use content::Answer;
 use content::Detector;
 use content::Options;

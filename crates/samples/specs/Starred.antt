@@ -1,4 +1,4 @@
--- The samples of RULES 13.1: what the definitions give for each, and what it must be.
+-- The samples that are proved of the definitions (RULES 13.1): what the definitions give for each, and what it must be.
 use mathlib.Core.Bool.{true}
 use mathlib.Core.List.{List, [], _∷_, map}
 use Prim.Native.Nat.{ℕ, suc}
@@ -14,19 +14,19 @@ use Rattle.filter.specs.declared.FilterMode.the-variants.{Suppress, Merge}
 use Rattle.filter.specs.Calls.{FilterCall, frame, filterRun}
 use Rattle.filter.specs.Claim.{answers}
 
--- (H, S, V) of (B, G, R)
+-- (H, S, V) of the pixel (B, G, R) (RULES 3)
 abbrev pub hsv : ℕ → ℕ → ℕ → List ℕ
 hsv b g r = hue b g r ∷ saturation b g r ∷ value b g r ∷ []
 
--- the low and the high mark of a median
+-- the low and the high mark of a median (RULES 5.4, 5.5)
 abbrev pub marks : ℕ → List ℕ
 marks m = lowMark m ∷ highMark m ∷ []
 
--- k of each of the three sizes
+-- k of each of the three sizes, where none is set (RULES 5.13)
 abbrev pub kernels : List ℕ
 kernels = autoKernelSize 287 289 ∷ autoKernelSize 288 288 ∷ autoKernelSize 1920 1080 ∷ []
 
--- a frame with that stamp and score, at threshold 27
+-- a frame with this stamp and score, at threshold 27 (RULES 6.7)
 abbrev pub scored : ℕ → ℕ → FilterCall
 scored stamp score = frame 1 1 (record { stamp = record { micros = pos stamp }; above = leb 27 score })
 
@@ -40,7 +40,7 @@ cutsFrom n [] = []
 cutsFrom n (None ∷ rs) = cutsFrom (suc n) rs
 cutsFrom n (At t ∷ rs) = pos n ∷ t .micros ∷ cutsFrom (suc n) rs
 
--- the cuts of these frames in this mode, with a minimum of 1,000,000 and `initial_cut` on
+-- the cuts of these frames in this mode, with a minimum of 1,000,000 and `initial_cut` on (RULES 7.3, 7.4)
 abbrev pub filtered : FilterMode → List ℤ
 filtered mode = cutsFrom 0 (answers (filterRun (record { «filter_mode» = mode; «min_duration» = 1000000; «initial_cut» = true }) strip))
 
@@ -48,7 +48,7 @@ filtered mode = cutsFrom 0 (answers (filterRun (record { «filter_mode» = mode;
 abbrev pub row : List ℕ → List ℤ
 row ns = map pos ns
 
--- what the definitions give: five pixels, four medians, three sizes, and the frames in Suppress and in Merge
+-- what the definitions give for five pixels, four medians, three sizes, and the frames in Suppress and in Merge (RULES 13.1)
 abbrev pub given : List (List ℤ)
 given =
     row (hsv 0 0 255)
@@ -65,7 +65,7 @@ given =
     ∷ filtered Merge
     ∷ []
 
--- what it must be, row by row. Call 5 is the frame at 3400000
+-- what it must be, row by row (RULES 13.1). Call 5 is the frame at 3400000.
 abbrev pub printed : List (List ℤ)
 printed =
     row (0 ∷ 255 ∷ 255 ∷ [])

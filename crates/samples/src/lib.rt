@@ -1,1 +1,1 @@
-// No code: the samples of RULES 13.1, proved of the definitions.
+// No code: the samples that are proved of the definitions (RULES 13.1).

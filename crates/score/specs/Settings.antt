@@ -1,4 +1,4 @@
--- The refusals 6 to 9 of settings (RULES 10.1).
+-- The refusals 6 to 9 of settings (RULES 10.1), in their order (RULES 10.5).
 use mathlib.Core.Bool.{Bool, false, not, _&&_, _||_}
 use mathlib.Core.List.{[], _∷_}
 use Prim.Native.Nat.{ℕ, _%_}
@@ -11,16 +11,16 @@ use Rattle.score.specs.declared.KernelSize.the-variants.{Auto, Set}
 use Rattle.laws.specs.Floats.{float}
 use Rattle.score.specs.Floats.{absOf}
 
--- a weight not finite, or beyond 2^20 in size: `le` is false of a NaN
+-- a weight that is not finite, or beyond 2^20 in size; of a NaN `le` is false, so it is too heavy
 unfoldable pub tooHeavy : Float → Bool
 tooHeavy w = not (le (absOf w) (float 1048576))
 
--- 6: one of the four weights is so
+-- 6: one of the four weights is not finite, or beyond 2^20 in size
 unfoldable pub anyTooHeavy : Components → Bool
 anyTooHeavy w =
     tooHeavy (w .«delta_hue») || tooHeavy (w .«delta_sat») || tooHeavy (w .«delta_lum») || tooHeavy (w .«delta_edges»)
 
--- 7: all weights zero, -0.0 among them. It is the Rust's `sum_abs() == 0.0` (proofs/ZeroSum.antt).
+-- 7: all weights are zero, where -0.0 is zero too. It is the Rust's `sum_abs() == 0.0` (proofs/ZeroSum.antt).
 unfoldable pub allZero : Components → Bool
 allZero w =
     eq (w .«delta_hue») (float 0)
@@ -28,12 +28,13 @@ allZero w =
     && eq (w .«delta_lum») (float 0)
     && eq (w .«delta_edges») (float 0)
 
--- 8: a set k below 3 or even
+-- 8: a k is set that is below 3 or even
 abbrev pub badKernel : KernelSize → Bool
 badKernel Auto = false
 badKernel (Set k) = ltb k 3 || eqb (k % 2) 0
 
--- 9: a threshold or `min_content_val` is NaN: which of them a detector has, it says
+-- the first of 6 to 9 that holds, or 0 (RULES 10.1, 10.5). 9 is a threshold or `min_content_val` that is NaN: each detector says by `nan`
+-- whether one of its own is.
 unfoldable pub settingsRefusal : Components → KernelSize → Bool → ℕ
 settingsRefusal weights kernel nan =
     firstThat ((anyTooHeavy weights, 6) ∷ (allZero weights, 7) ∷ (badKernel kernel, 8) ∷ (nan, 9) ∷ [])

@@ -1,5 +1,5 @@
-// The score of a frame: four components, their weights, and refusals 6 to 9 of settings. Every function takes any
-// floats, NaN and infinities among them.
+// The score of a frame: four components and their weights (RULES 6), and refusals 6 to 9 of settings (RULES 10.1). Every function
+// takes any floats, NaN and infinities among them.
 ghost use mathlib.Core.Path.{_≡_};
 ghost use lib.Ieee.{isNan, le};
 ghost use Rattle.score.specs.Floats.{absOf};

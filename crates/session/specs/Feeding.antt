@@ -1,4 +1,4 @@
--- The session fed chunk by chunk: what is kept between two chunks of the input, and what each chunk brings.
+-- The session fed chunk by chunk (RULES 11.7): what is kept between two chunks of the input, and what each chunk brings.
 use mathlib.Core.Bool.{cond}
 use mathlib.Core.List.{List, [], _∷_, _++_}
 use Prim.Native.Nat.{ℕ, suc, _+_, min}
@@ -15,7 +15,7 @@ pub record State : Type 0 where
 abbrev pub hold : List ℕ → ℕ → List ℕ
 hold bytes b = cond (ltb (length bytes) 8193) (bytes ++ (b ∷ [])) bytes
 
--- the state after a byte, and the text that the byte brings: a line feed ends the line
+-- the state after a byte, and the text that the byte brings: a line feed ends the line (RULES 11.1)
 unfoldable pub next : State → ℕ → State
 next s b =
     record {
@@ -35,7 +35,7 @@ unfoldable pub fedText : State → List ℕ → List ℕ
 fedText s [] = []
 fedText s (b ∷ bs) = textOf s b ++ fedText (next s b) bs
 
--- the text at the end of the input: of the line that no line feed ended, if there is one
+-- the text at the end of the input: that of the line that no line feed ended, if there is one (RULES 11.1)
 unfoldable pub lastText : State → List ℕ
 lastText s = cond (eqb (length (s .held)) 0) [] (lineText (s .place .number) (lineCall (s .place) (s .held) .answer))
 
@@ -47,7 +47,7 @@ fresh = record { place = start; held = [] }
 unfoldable pub chunkEnd : (a size n : ℕ) → ℕ
 chunkEnd a size n = cond (eqb size 0) n (min n (a + size))
 
--- the text of chunks one after the other, and then the end of the input
+-- the text of chunks one after the other, and then of the end of the input (RULES 11.7)
 unfoldable pub chunksText : State → List (List ℕ) → List ℕ
 chunksText s [] = lastText s
 chunksText s (chunk ∷ chunks) = fedText s chunk ++ chunksText (fed s chunk) chunks

@@ -1,4 +1,4 @@
--- RULES 11.7: a line's number as its place among the lines, with no last number.
+-- A line's number as its place among the lines, with no last number (RULES 11.7).
 use mathlib.Core.List.{List, [], _∷_, _++_}
 use Prim.Native.Nat.{ℕ, suc}
 use Rattle.session.specs.Output.{Place, lineCall, after, lineText}

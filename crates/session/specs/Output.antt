@@ -24,6 +24,7 @@ ended ([] ∷ []) = []
 ended ((b ∷ bs) ∷ []) = (b ∷ bs) ∷ []
 ended (part ∷ next ∷ parts) = part ∷ ended (next ∷ parts)
 
+-- the lines of an input (RULES 11.1)
 abbrev pub lines : List ℕ → List (List ℕ)
 lines input = ended (parted 10 input)
 
@@ -38,8 +39,8 @@ pub record Place : Type 0 where
 abbrev pub start : Place
 start = record { detector = fresh defaults; store = replicate 4096 0; number = 0 }
 
--- What a line brings: the luma call of its frame, rows packed, or 16. 9,216 bytes of scratch and 1,024 magnitudes are enough for
--- every frame of at most 1,024 pixels whose sides the call takes.
+-- What a line brings: the luma call of its frame, whose stride is its width, or 16 (RULES 11.3, 11.5). 9,216 bytes of scratch and 1,024
+-- magnitudes are enough for every frame of at most 1,024 pixels whose sides the call takes.
 unfoldable pub lineCall : Place → List ℕ → Outcome Answer
 lineCall p line =
     cond
@@ -47,16 +48,17 @@ lineCall p line =
     (called (p .detector) (luma (lumaOf (fields line)) (lineOf line .width) (lineOf line .height) (lineOf line .width) (lineOf line .stamp) (memory (p .store) (replicate 9216 0) (replicate 1024 (pos 0)))))
     (record { answer = refusedAnswer (p .detector) 16; store = p .store })
 
--- RULES 11.6: each line's number is one more than that of the line before. That the last number of 64 bits stays is a decision
+-- Each line's number is one more than that of the line before (RULES 11.6). That the last number of 64 bits stays is a decision
 -- (docs/DECISIONS.md); no input that a machine holds meets it (proofs/Numbers.antt).
 abbrev pub nextNumber : ℕ → ℕ
 nextNumber n = cond (ltb n 18446744073709551615) (suc n) n
 
+-- where the session stands after a line; a line that is refused leaves the detector as it was (RULES 11.5)
 unfoldable pub after : Place → List ℕ → Place
 after p line =
     record { detector = lineCall p line .answer .detector; store = lineCall p line .store; number = nextNumber (p .number) }
 
--- the cut or `-`
+-- the cut, or `-` where there is none (RULES 11.6)
 abbrev pub cutText : MaybeTimestamp → List ℕ
 cutText None = 45 ∷ []
 cutText (At t) = stampText (t .micros)
@@ -66,14 +68,15 @@ unfoldable pub lineText : ℕ → Answer → List ℕ
 lineText number answer =
     decimal number ++ (44 ∷ (decimal (answer .number) ++ (44 ∷ (cutText (answer .cut) ++ (10 ∷ [])))))
 
+-- the text of these lines, from this place on, one after the other (RULES 11.6)
 unfoldable pub answers : Place → List (List ℕ) → List ℕ
 answers p [] = []
 answers p (line ∷ lines) = lineText (p .number) (lineCall p line .answer) ++ answers (after p line) lines
 
--- `frame,answer,cut` and a line feed
+-- `frame,answer,cut` and a line feed (RULES 11.6)
 abbrev pub header : List ℕ
 header = 102 ∷ 114 ∷ 97 ∷ 109 ∷ 101 ∷ 44 ∷ 97 ∷ 110 ∷ 115 ∷ 119 ∷ 101 ∷ 114 ∷ 44 ∷ 99 ∷ 117 ∷ 116 ∷ 10 ∷ []
 
--- the whole output for the whole input
+-- the whole output for the whole input: the header, then a line for each line (RULES 11.6)
 unfoldable pub output : List ℕ → List ℕ
 output input = header ++ answers start (lines input)

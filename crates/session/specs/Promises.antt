@@ -1,4 +1,4 @@
--- What the session promises: `s` and `out` at entry, `s′` and `out′` at exit.
+-- What the session's functions promise of the output (RULES 11.6, 11.7): `s` and `out` are at entry, `s′` and `out′` at exit.
 use mathlib.Core.Path.{_≡_}
 use mathlib.Core.Bool.{Bool, true, false}
 use mathlib.Core.List.{List}
@@ -44,7 +44,7 @@ pub record IsOutput (input out out′ : List ℕ) (ok : Bool) (written : ℕ) : 
   pub none : ok ≡ false → written ≡ 0
   pub room : ok ≡ false → length out < length (output input) + 64
 
--- the same after the header's 17 bytes
+-- the output after the header's 17 bytes, and the same promise of it
 abbrev pub linesText : List ℕ → List ℕ
 linesText input = answers start (lines input)
 

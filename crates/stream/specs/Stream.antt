@@ -1,4 +1,5 @@
--- What both detectors keep of the stream: whether there is a previous frame, its size, and the last score with its components.
+-- What both detectors keep of the stream of frames: whether there is a previous frame, its width and height, and the last score with its
+-- components (RULES 6.5, 8.3).
 use mathlib.Core.Bool.{Bool, true, false, cond, _&&_}
 use mathlib.Core.List.{[], _∷_}
 use Prim.Native.Nat.{ℕ, _+_, _*_, max}
@@ -19,20 +20,21 @@ use Rattle.stream.specs.declared.Sums.{Sums}
 abbrev pub noSums : Sums
 noSums = record { hue = 0; saturation = 0; luma = 0; edges = 0; count = 0 }
 
--- the components of a frame are means: each sum over the count
+-- the components of a frame are mean differences: each whole sum over the number of pixels, 0.0 where there are none (RULES 4.2, 4.3)
 unfoldable pub componentsOf : Sums → Components
 componentsOf s =
     components (meanOf (s .hue) (s .count)) (meanOf (s .saturation) (s .count)) (meanOf (s .luma) (s .count)) (meanOf (s .edges) (s .count))
 
--- before the first frame of a stretch
+-- before the first frame of a stretch: no previous frame, no last score and no last components, and this size
 abbrev pub freshStream : ℕ → ℕ → Stream
 freshStream w h = record { «has_previous» = false; «last_score» = noScore; «last_components» = noComponents; width = w; height = h }
 
--- a frame of this size is scored: there is a previous one of the same width and height in its stretch
+-- a frame of this size is scored: there is a previous frame of the same width and height (RULES 6.5)
 unfoldable pub isScored : Stream → ℕ → ℕ → Bool
 isScored s w h = eqb (s .width) w && eqb (s .height) h && s .«has_previous»
 
--- after an accepted frame with these sums of differences: a scored frame has a score and components, the first of a stretch has neither
+-- after an accepted frame with these sums of differences: a scored frame has a score and components; the first frame of a stretch has neither
+-- (RULES 6.5, 8.5)
 unfoldable pub nextStream : Stream → ℕ → ℕ → Components → Sums → Stream
 nextStream s w h weights sums =
     let deltas : Components = componentsOf sums in
@@ -40,13 +42,13 @@ nextStream s w h weights sums =
     let shown : MaybeComponents = cond (isScored s w h) (someComponents deltas) noComponents in
     record { «has_previous» = true; «last_score» = score; «last_components» = shown; width = w; height = h }
 
--- the components that an answer shows: four times 0.0 where there are none
+-- the components that an answer shows: four times 0.0 where there are none (RULES 8.4)
 abbrev pub componentsShown : MaybeComponents → Components
 componentsShown noComponents = components (float 0) (float 0) (float 0) (float 0)
 componentsShown (someComponents c) = c
 
--- 12, 13, 14: for n pixels the store has less than 4n bytes, the scratch less than 7n + 2 × the longer side, the magnitudes less than n
--- numbers. Edges need not be on.
+-- The first of 12, 13 and 14 that holds, or 0: for n pixels the store has less than 4n bytes (12), the scratch less than
+-- 7n + 2 × max(width, height) bytes (13), or the magnitudes are fewer than n numbers (14). These lengths hold with edges off too (RULES 12.1).
 unfoldable pub memoryRefusal : (store scratch magnitudes width height : ℕ) → ℕ
 memoryRefusal store scratch magnitudes w h =
     firstThat ((ltb store (4 * (w * h)), 12) ∷ (ltb scratch (7 * (w * h) + 2 * max w h), 13) ∷ (ltb magnitudes (w * h), 14) ∷ [])

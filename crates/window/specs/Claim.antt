@@ -1,5 +1,5 @@
--- What holds of every list of adaptive calls: the cuts keep the distance from clear to clear, over changes of size and whatever the clock does.
--- Everything here is said of the calls and their answers alone, and nothing of the detector's state.
+-- What holds of every list of adaptive calls, as the window sees them: from `clear` to `clear` the cuts keep the distance, over changes of size
+-- too, whatever the stamps do (RULES 14.12). Everything here is said of the calls and their answers alone, and nothing of the detector's state.
 use mathlib.Core.Path.{_≡_}
 use mathlib.Core.Bool.{Bool, true, false}
 use mathlib.Core.List.{List, [], _∷_}
@@ -9,7 +9,7 @@ use Rattle.filter.specs.Claim.{cutsIn, KeepsDistance}
 use Rattle.window.specs.declared.WindowOptions.{WindowOptions}
 use Rattle.window.specs.Calls.{WindowCall, refused, unscored, scored, clear, Answered, _brought_, windowRun}
 
--- ---- refused calls left out
+-- ---- refused calls left out (RULES 14.6)
 
 -- a refused call
 abbrev pub windowRefused : WindowCall → Bool
@@ -26,15 +26,15 @@ callOf (c brought a) = c
 abbrev pub withoutRefused : {A : Type 0} → List (Answered A) → List (Answered A)
 withoutRefused {A} xs = leaveOut (λ (x : Answered A). windowRefused (callOf x)) xs
 
--- ---- from clear to clear
+-- ---- from `clear` to `clear` (RULES 14.12)
 
--- an answer, before the parts of the answers after it
+-- an answer, put before the parts of the answers after it: it joins the first part
 abbrev pub joinedPart : {A : Type 0} → A → List (List A) → List (List A)
 joinedPart a [] = (a ∷ []) ∷ []
 joinedPart a (p ∷ ps) = (a ∷ p) ∷ ps
 
--- The answers in parts, each of which ends with a clear, but the last. The division is by the calls alone: it is the same whatever the answers are,
--- and of whatever type. Every answer is in a part.
+-- The answers in parts, each of which but the last ends with that of a `clear` (RULES 14.12). The division is by the calls alone: it is the same
+-- whatever the answers are, and of whatever type. Every answer is in a part.
 abbrev pub fromClearToClear : {A : Type 0} → List (Answered A) → List (List A)
 fromClearToClear [] = [] ∷ []
 fromClearToClear ((refused brought a) ∷ xs) = joinedPart a (fromClearToClear xs)
@@ -44,16 +44,16 @@ fromClearToClear ((clear brought a) ∷ xs) = (a ∷ []) ∷ fromClearToClear xs
 
 -- ---- the claim
 
--- each cut is at least the minimum past the one before
+-- the cuts of a part keep the distance: each is at least the minimum past the one before (RULES 14.8)
 abbrev pub PartKeeps : WindowOptions → List MaybeTimestamp → Type 0
 PartKeeps o answers = KeepsDistance (o .«min_duration») (cutsIn answers)
 
--- the claim, of calls and what they brought: from clear to clear the cuts keep the distance
+-- the claim about calls and what they brought: from `clear` to `clear` the cuts keep the distance (RULES 14.12)
 abbrev pub PartsHold : WindowOptions → List (Answered MaybeTimestamp) → Type 0
 PartsHold o xs = All (PartKeeps o) (fromClearToClear xs)
 
--- the claim, of a list of calls from a fresh state
+-- the claim about a list of calls from a fresh state
 pub record WindowClaim (o : WindowOptions) (calls : List WindowCall) : Type 0 where
   pub holds : PartsHold o (windowRun o calls)
-  -- without the refused calls each other call brings what it brought
+  -- when refused calls are left out, each other call brings what it brought (RULES 14.6)
   pub left-out : windowRun o (leaveOut windowRefused calls) ≡ withoutRefused (windowRun o calls)

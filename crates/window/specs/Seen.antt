@@ -1,4 +1,5 @@
--- A detector's own calls, seen as the calls of `Calls.antt`, for a detector that acts on them. S is its state, C its calls.
+-- The calls of a list on one detector (RULES 14.5), each seen as one of the calls of `Calls.antt`. S is the type of the detector's states, C that
+-- of its own calls.
 use mathlib.Core.List.{List, [], _∷_}
 use Rattle.window.specs.Calls.{WindowCall, Answered, _brought_}
 

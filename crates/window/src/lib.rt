@@ -1,5 +1,5 @@
-// The window of the adaptive detector, `push_and_check` of adaptive.rs: which scored frames become cuts. It sees stamps
-// and scores alone, and takes any floats, NaN and infinities among them.
+// The window of the adaptive detector (RULES 9.3 to 9.10), `push_and_check` of the Rust's adaptive.rs: which scored frames are cuts. It sees
+// stamps and scores alone, and takes any floats, NaN and infinities among them.
 ghost use mathlib.Core.Path.{_≡_};
 ghost use Prim.Native.Nat.{_+_, _*_, _<_, _≤_};
 ghost use lib.ListN.{length};
