@@ -7,7 +7,7 @@ use Rattle.timestamp.specs.declared.MaybeTimestamp.the-variants.{None}
 use Rattle.frame.specs.Checks.{tooLarge}
 use Rattle.score.specs.declared.MaybeScore.the-variants.{None as noScore}
 use Rattle.score.specs.declared.MaybeComponents.the-variants.{None as noComponents}
-use Rattle.stream.specs.Stream.{freshStream, componentsShown}
+use Rattle.stream.specs.Stream.{noSums, freshStream, componentsShown}
 use Rattle.window.specs.Window.{fresh as freshWindow}
 use Rattle.adaptive.specs.declared.Options.{Options}
 use Rattle.adaptive.specs.declared.Detector.{Detector}
@@ -32,10 +32,10 @@ badState d =
 unfoldable pub settled : Options → Settled
 settled o = record { number = optionsRefusal o; detector = fresh (cond (eqb (optionsRefusal o) 0) o defaults) }
 
--- an answer with this state, no cut and no score: that of a refused call, with the old state (RULES 10.3), and that of `clear`, with the
+-- an answer with this state, no cut, no score and no sums: that of a refused call, with the old state (RULES 10.3), and that of `clear`, with the
 -- number 0
 abbrev pub refusedAnswer : Detector → ℕ → Answer
-refusedAnswer d n = record { number = n; detector = d; cut = None; score = noScore; components = componentsShown noComponents }
+refusedAnswer d n = record { number = n; detector = d; cut = None; score = noScore; components = componentsShown noComponents; sums = noSums }
 
 -- what `clear` returns: refused by 15 alone, it keeps settings and size, and all else is as at the start (RULES 9.11)
 unfoldable pub clearedAnswer : Detector → Answer

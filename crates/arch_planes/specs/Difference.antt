@@ -1,5 +1,5 @@
--- The mean difference of two planes (`mean_abs_diff`): the whole sum of their absolute differences, divided by the number of pixels in one
--- f64 division; 0.0 when there are no pixels (RULES 4.1, 4.2).
+-- The difference of two planes (`mean_abs_diff`): the whole sum of their absolute differences, the number of pixels, and the mean, which is
+-- the sum divided by that number in one f64 division; 0.0 when there are no pixels (RULES 4.1, 4.2).
 use mathlib.Core.Bool.{cond}
 use mathlib.Core.List.{List}
 use Prim.Native.Nat.{ℕ, _+_, _-_}
@@ -8,6 +8,7 @@ use lib.Dec.{eqb}
 use lib.Ieee.{Float, binary64, div}
 use Rattle.laws.specs.Lists.{sum}
 use Rattle.laws.specs.Floats.{float}
+use Rattle.arch_planes.specs.declared.PlaneDifference.{PlaneDifference}
 
 -- |a - b|: one of the two differences is 0
 abbrev pub dist : ℕ → ℕ → ℕ
@@ -21,6 +22,6 @@ sumAbsDiff s t = sum (length s) (λ i. dist (getD s i 0) (getD t i 0))
 unfoldable pub meanOf : ℕ → ℕ → Float
 meanOf total n = cond (eqb n 0) (float 0) (div binary64 (float total) (float n))
 
--- the mean of |s[i] - t[i]|
-unfoldable pub meanAbsDiff : List ℕ → List ℕ → Float
-meanAbsDiff s t = meanOf (sumAbsDiff s t) (length s)
+-- the difference of two planes of one length: the sum of |s[i] - t[i]|, the number of places, and the mean
+unfoldable pub meanAbsDiff : List ℕ → List ℕ → PlaneDifference
+meanAbsDiff s t = record { sum = sumAbsDiff s t; count = length s; mean = meanOf (sumAbsDiff s t) (length s) }

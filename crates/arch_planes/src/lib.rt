@@ -5,6 +5,14 @@ ghost use lib.ListN.{length};
 ghost use Rattle.arch_planes.specs.Packed.{packed};
 ghost use Rattle.arch_planes.specs.Difference.{dist, sumAbsDiff, meanOf, meanAbsDiff};
 
+// How much two planes of bytes differ: the whole sum of the absolute differences, the number of pixels, and the mean, which is the sum
+// over that number by one division, 0.0 for no pixels.
+pub struct PlaneDifference {
+    pub sum: u32,
+    pub count: u32,
+    pub mean: f64,
+}
+
 // dst becomes src.
 pub fn copy_row(dst: &mut [u8], src: &[u8])
     requires { ⌜ length (now dst) ≡ length (now src) ⌝ }
@@ -47,7 +55,7 @@ fn abs_diff(x: u8, y: u8) -> u32
 
 // The whole sum of the absolute differences of the bytes of a and b. 2^24 bytes are the most of a frame, and
 // 255 * 2^24 fits a u32.
-pub fn sum_abs_diff(a: &[u8], b: &[u8]) -> u32
+fn sum_abs_diff(a: &[u8], b: &[u8]) -> u32
     requires { ⌜ length (now a) ≡ length (now b) ⌝ }
     requires { ⌜ length (now a) ≤ 2 ^ 24 ⌝ }
     ensures { λ r. ⌜ r ≡ sumAbsDiff (now (a .entry)) (now (b .entry)) ⌝ }
@@ -71,12 +79,17 @@ pub fn mean_of(total: u32, n: u32) -> f64
     total as f64 / n as f64
 }
 
-// The mean of the absolute differences of the bytes of a and b.
-pub fn mean_abs_diff(a: &[u8], b: &[u8]) -> f64
+// The difference of the planes a and b: whole sum, count and mean.
+pub fn mean_abs_diff(a: &[u8], b: &[u8]) -> PlaneDifference
     requires { ⌜ length (now a) ≡ length (now b) ⌝ }
     requires { ⌜ length (now a) ≤ 2 ^ 24 ⌝ }
     ensures { λ r. ⌜ r ≡ meanAbsDiff (now (a .entry)) (now (b .entry)) ⌝ }
 {
+    let total = sum_abs_diff(a, b);
     let n = a.len() as u32;
-    mean_of(sum_abs_diff(a, b), n)
+    PlaneDifference {
+        sum: total,
+        count: n,
+        mean: mean_of(total, n),
+    }
 }

@@ -2,6 +2,7 @@
 // number (RULES 10.5). The memory is lent: a store of the last frame's planes, which is to be handed to the next call as this one left it,
 // scratch and magnitudes (RULES 12.1, 12.2). What a frame is to a detector is in the crate `frame_call`; its step is added here.
 ghost use mathlib.Core.Path.{_≡_};
+ghost use Rattle.stream.specs.Stream.{FromSums};
 ghost use Rattle.frame_call.specs.Call.{luma, bgr, hsv, memory, answeredBy, Called};
 ghost use Rattle.content.specs.State.{refusedAnswer};
 ghost use Rattle.content.specs.Step.{stepped, called};
@@ -18,8 +19,7 @@ fn answer_to(d: Detector, ts: Timestamp, p: Picture) -> Answer
     if 0 < p.number {
         return content::without_score(d, p.number);
     }
-    let s = p.stream;
-    content::step(d, ts, s)
+    content::step(d, ts, p)
 }
 
 // A luma frame.
@@ -34,7 +34,7 @@ pub fn process_luma(
     scratch: &mut [u8],
     magnitudes: &mut [i32],
 ) -> Answer
-    ensures { λ r. ⌜ Called (called d (luma (now (plane .entry)) width height stride ts (memory (now (store .entry)) (now (scratch .entry)) (now (magnitudes .entry))))) r (r .number) (memory (now (store .entry)) (now (scratch .entry)) (now (magnitudes .entry))) (memory (now (store .exit)) (now (scratch .exit)) (now (magnitudes .exit))) ⌝ }
+    ensures { λ r. ⌜ Called (called d (luma (now (plane .entry)) width height stride ts (memory (now (store .entry)) (now (scratch .entry)) (now (magnitudes .entry))))) r (r .number) (memory (now (store .entry)) (now (scratch .entry)) (now (magnitudes .entry))) (memory (now (store .exit)) (now (scratch .exit)) (now (magnitudes .exit))) × FromSums (d .options .weights) (r .score) (r .components) (r .sums) ⌝ }
 {
     let was = d.stream;
     let o = d.options;
@@ -67,7 +67,7 @@ pub fn process_bgr(
     scratch: &mut [u8],
     magnitudes: &mut [i32],
 ) -> Answer
-    ensures { λ r. ⌜ Called (called d (bgr (now (pixels .entry)) width height stride ts (memory (now (store .entry)) (now (scratch .entry)) (now (magnitudes .entry))))) r (r .number) (memory (now (store .entry)) (now (scratch .entry)) (now (magnitudes .entry))) (memory (now (store .exit)) (now (scratch .exit)) (now (magnitudes .exit))) ⌝ }
+    ensures { λ r. ⌜ Called (called d (bgr (now (pixels .entry)) width height stride ts (memory (now (store .entry)) (now (scratch .entry)) (now (magnitudes .entry))))) r (r .number) (memory (now (store .entry)) (now (scratch .entry)) (now (magnitudes .entry))) (memory (now (store .exit)) (now (scratch .exit)) (now (magnitudes .exit))) × FromSums (d .options .weights) (r .score) (r .components) (r .sums) ⌝ }
 {
     let was = d.stream;
     let o = d.options;
@@ -102,7 +102,7 @@ pub fn process_hsv(
     scratch: &mut [u8],
     magnitudes: &mut [i32],
 ) -> Answer
-    ensures { λ r. ⌜ Called (called d (hsv (now (hue .entry)) (now (saturation .entry)) (now (value .entry)) width height stride ts (memory (now (store .entry)) (now (scratch .entry)) (now (magnitudes .entry))))) r (r .number) (memory (now (store .entry)) (now (scratch .entry)) (now (magnitudes .entry))) (memory (now (store .exit)) (now (scratch .exit)) (now (magnitudes .exit))) ⌝ }
+    ensures { λ r. ⌜ Called (called d (hsv (now (hue .entry)) (now (saturation .entry)) (now (value .entry)) width height stride ts (memory (now (store .entry)) (now (scratch .entry)) (now (magnitudes .entry))))) r (r .number) (memory (now (store .entry)) (now (scratch .entry)) (now (magnitudes .entry))) (memory (now (store .exit)) (now (scratch .exit)) (now (magnitudes .exit))) × FromSums (d .options .weights) (r .score) (r .components) (r .sums) ⌝ }
 {
     let was = d.stream;
     let o = d.options;

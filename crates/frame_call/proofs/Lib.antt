@@ -3,3 +3,4 @@ pub mod Filled
 pub mod Returned
 pub mod Numbers
 pub mod Runs
+pub mod Sums

@@ -65,7 +65,7 @@ module _ (s : Stream) (o : PictureOptions) (bad : Bool) (u w h : ℕ) (p : Plane
         }
 
 -- a detector's call, by that of its frame: the answer is by the picture, and so is the answer's number
-pub called-by : {A : Type 0} (stepped : Stream → A) (refused : ℕ → A) (p : Outcome Picture) (q : Picture) (r : A) (n : ℕ) (m m′ : Memory)
+pub called-by : {A : Type 0} (stepped : Picture → A) (refused : ℕ → A) (p : Outcome Picture) (q : Picture) (r : A) (n : ℕ) (m m′ : Memory)
     → Called p q (q .number) m m′ → r ≡ answeredBy stepped refused q → n ≡ q .number
     → Called {A = A} (record { answer = answeredBy stepped refused (p .answer); store = p .store }) r n m m′
 called-by stepped refused p q r n m m′ c e z =
@@ -78,7 +78,7 @@ called-by stepped refused p q r n m m′ c e z =
     }
 
 -- of the scratch and the magnitudes a call asks for the lengths alone
-pub lent-same : {A : Type 0} (s : Stream) (o : PictureOptions) (bad : Bool) (stepped : Timestamp → Stream → A) (refused : ℕ → A) (cleared : A)
+pub lent-same : {A : Type 0} (s : Stream) (o : PictureOptions) (bad : Bool) (stepped : Timestamp → Picture → A) (refused : ℕ → A) (cleared : A)
     (plane : List ℕ) (w h stride : ℕ) (ts : Timestamp) (store scratch scratch′ : List ℕ) (magnitudes magnitudes′ : List ℤ)
     → length scratch ≡ length scratch′ → length magnitudes ≡ length magnitudes′
     → outcomeOf s o bad stepped refused cleared (luma plane w h stride ts (memory store scratch magnitudes))

@@ -11,23 +11,19 @@ use Rattle.frame.specs.Checks.{tooLarge}
 use Rattle.frame.proofs.Accepted.{Accepted, accepted-luma, accepted-bgr, accepted-hsv}
 use Rattle.scoring.specs.Planes.{Planes}
 use Rattle.stream.specs.declared.Stream.{Stream}
-use Rattle.stream.specs.Stream.{isScored, nextStream}
+use Rattle.stream.specs.Stream.{nextStream}
 use Rattle.laws.specs.Lists.{All, leaveOut}
 use Rattle.frame_call.specs.declared.PictureOptions.{PictureOptions}
-use Rattle.frame_call.specs.Call.{Memory, Call, luma, bgr, hsv, clear, frameNumber, Outcome, sumsOf, accepted, pictured, answeredBy, outcomeOf}
+use Rattle.frame_call.specs.declared.Picture.{Picture}
+use Rattle.frame_call.specs.Call.{Memory, Call, luma, bgr, hsv, clear, frameNumber, Outcome, accepted, pictured, answeredBy, outcomeOf}
 use Rattle.frame_call.specs.Run.{ownNumber, isRefused, MadeCall, runFrom, RunClaim}
 use Rattle.frame_call.proofs.Refusals.{passed}
 use Rattle.frame_call.proofs.Numbers.{own-below}
 
--- the stream after an accepted frame
-abbrev pub streamAfter : Stream → PictureOptions → (width height : ℕ) → Planes → (store : List ℕ) → Stream
-streamAfter s o w h p store =
-    nextStream s w h (o .weights) (sumsOf o (isScored s w h) w h p store)
-
 -- ---- the answer to a frame, accepted and refused
 
-module _ {A : Type 0} (s : Stream) (o : PictureOptions) (bad : Bool) (stepped : Stream → A) (refused : ℕ → A) (u w h : ℕ) (p : Planes) (m : Memory) where
-  pub if-accepted : eqb (frameNumber bad u w h m) 0 ≡ true → answeredBy stepped refused (pictured s o bad u w h p m .answer) ≡ stepped (streamAfter s o w h p (m .store))
+module _ {A : Type 0} (s : Stream) (o : PictureOptions) (bad : Bool) (stepped : Picture → A) (refused : ℕ → A) (u w h : ℕ) (p : Planes) (m : Memory) where
+  pub if-accepted : eqb (frameNumber bad u w h m) 0 ≡ true → answeredBy stepped refused (pictured s o bad u w h p m .answer) ≡ stepped (accepted s o w h p (m .store) .answer)
   unfolding pictured accepted
   if-accepted e = rw e
 
@@ -45,15 +41,15 @@ small {w = w} {h = h} a = simp (le-ltb 4096 w (a .wide), le-ltb 4096 h (a .high)
 -- ---- a detector
 
 module _ {D A : Type 0} (streamOf : D → Stream) (settings : D → PictureOptions) (bad : D → Bool)
-    (stepped : D → Timestamp → Stream → A) (refused : D → ℕ → A) (cleared : D → A) (number : A → ℕ) (stateOf : A → D) where
+    (stepped : D → Timestamp → Picture → A) (refused : D → ℕ → A) (cleared : D → A) (number : A → ℕ) (stateOf : A → D) where
   abbrev called : D → Call → Outcome A
   called d c = outcomeOf (streamOf d) (settings d) (bad d) (stepped d) (refused d) (cleared d) c
 
   -- Good is what holds of every state of a run; this is what a detector shows of it, and of its answers
   pub record DetectorLaws (Good : D → Type 0) : Type 0 where
     pub not-bad : (d : D) → Good d → bad d ≡ false
-    pub step-number : (d : D) (ts : Timestamp) (s : Stream) → number (stepped d ts s) ≡ 0
-    pub step-stays : (d : D) (ts : Timestamp) (s : Stream) → tooLarge (s .width) (s .height) ≡ false → Good d → Good (stateOf (stepped d ts s))
+    pub step-number : (d : D) (ts : Timestamp) (p : Picture) → number (stepped d ts p) ≡ 0
+    pub step-stays : (d : D) (ts : Timestamp) (p : Picture) → tooLarge (p .stream .width) (p .stream .height) ≡ false → Good d → Good (stateOf (stepped d ts p))
     pub refused-number : (d : D) (n : ℕ) → number (refused d n) ≡ n
     pub refused-state : (d : D) (n : ℕ) → stateOf (refused d n) ≡ d
     pub clear-number : (d : D) → Good d → number (cleared d) ≡ 0
@@ -80,10 +76,10 @@ module _ {D A : Type 0} (streamOf : D → Stream) (settings : D → PictureOptio
           ap stateOf (if-refused (streamOf d) (settings d) (bad d) (stepped d ts) (refused d) u w h p m n) ∙ k .refused-state d _
 
       frame-stays : Sides u w h → Good (stateOf answer)
-      unfolding nextStream
+      unfolding accepted nextStream
       frame-stays sides = by-zero (eqb (frameNumber (bad d) u w h m) 0) refl
         where
-          taken : eqb (frameNumber (bad d) u w h m) 0 ≡ true → Good (stateOf (stepped d ts (streamAfter (streamOf d) (settings d) w h p (m .store))))
+          taken : eqb (frameNumber (bad d) u w h m) 0 ≡ true → Good (stateOf (stepped d ts (accepted (streamOf d) (settings d) w h p (m .store) .answer)))
           taken e = k .step-stays d ts _ (sides (passed (bad d) _ _ (eqb-true _ 0 e) .0)) g
 
           by-zero : (b : Bool) → eqb (frameNumber (bad d) u w h m) 0 ≡ b → Good (stateOf answer)

@@ -74,13 +74,13 @@ pictured s o bad u w h p m =
     let n = frameNumber bad u w h m in
     cond (eqb n 0) (accepted s o w h p (m .store)) (record { answer = record { number = n; stream = s; sums = noSums }; store = m .store })
 
--- a detector's answer to a frame: `stepped` of the stream after it when it is accepted, `refused` of the number when it is refused
-abbrev pub answeredBy : {A : Type 0} → (stepped : Stream → A) → (refused : ℕ → A) → Picture → A
-answeredBy stepped refused p = cond (eqb (p .number) 0) (stepped (p .stream)) (refused (p .number))
+-- a detector's answer to a frame: `stepped` of what the frame brings when it is accepted, `refused` of the number when it is refused
+abbrev pub answeredBy : {A : Type 0} → (stepped : Picture → A) → (refused : ℕ → A) → Picture → A
+answeredBy stepped refused p = cond (eqb (p .number) 0) (stepped p) (refused (p .number))
 
 -- the outcome of a detector's call, by its stream, its settings and whether its state is bad (RULES 8.4, 10.3); `cleared` is the answer to
 -- `clear`, which is lent no memory
-abbrev pub outcomeOf : {A : Type 0} → Stream → PictureOptions → (bad : Bool) → (stepped : Timestamp → Stream → A) → (refused : ℕ → A) → (cleared : A) → Call → Outcome A
+abbrev pub outcomeOf : {A : Type 0} → Stream → PictureOptions → (bad : Bool) → (stepped : Timestamp → Picture → A) → (refused : ℕ → A) → (cleared : A) → Call → Outcome A
 outcomeOf s o bad stepped refused cleared c =
     byCall (λ u w h p ts m. let r = pictured s o bad u w h p m in record { answer = answeredBy (stepped ts) refused (r .answer); store = r .store })
     (record { answer = cleared; store = [] }) c

@@ -53,16 +53,11 @@ fn call_refusal(
 fn refuse(s: Stream, number: u32) -> Picture
     ensures { λ r. ⌜ r ≡ record { number = number; stream = s; sums = noSums } ⌝ }
 {
+    let none = stream::no_sums();
     Picture {
         number: number,
         stream: s,
-        sums: Sums {
-            hue: 0,
-            saturation: 0,
-            luma: 0,
-            edges: 0,
-            count: 0,
-        },
+        sums: none,
     }
 }
 

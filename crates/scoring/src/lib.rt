@@ -79,12 +79,15 @@ fn plane_sums(scratch: &[u8], store: &[u8], n: usize) -> Sums
 {
     let m = n + n;
     let e = n + m;
+    let hue = arch_planes::mean_abs_diff(&scratch[0..n], &store[0..n]);
+    let saturation = arch_planes::mean_abs_diff(&scratch[n..m], &store[n..m]);
+    let luma = arch_planes::mean_abs_diff(&scratch[m..e], &store[m..e]);
     Sums {
-        hue: arch_planes::sum_abs_diff(&scratch[0..n], &store[0..n]),
-        saturation: arch_planes::sum_abs_diff(&scratch[n..m], &store[n..m]),
-        luma: arch_planes::sum_abs_diff(&scratch[m..e], &store[m..e]),
+        hue: hue.sum,
+        saturation: saturation.sum,
+        luma: luma.sum,
         edges: 0,
-        count: n as u32,
+        count: luma.count,
     }
 }
 
@@ -98,13 +101,7 @@ fn sums_if(scored: bool, scratch: &[u8], store: &[u8], n: usize) -> Sums
     if scored {
         return plane_sums(scratch, store, n);
     }
-    Sums {
-        hue: 0,
-        saturation: 0,
-        luma: 0,
-        edges: 0,
-        count: 0,
-    }
+    stream::no_sums()
 }
 
 // The three planes of the scratch become those of the store.
@@ -142,7 +139,8 @@ fn edge_sum_if(scored: bool, scratch: &[u8], store: &[u8], n: usize) -> u32
     if scored {
         let e = n + (n + n);
         let f = n + e;
-        return arch_planes::sum_abs_diff(&scratch[e..f], &store[e..f]);
+        let edges = arch_planes::mean_abs_diff(&scratch[e..f], &store[e..f]);
+        return edges.sum;
     }
     0
 }

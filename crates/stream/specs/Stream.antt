@@ -4,6 +4,8 @@ use mathlib.Core.Bool.{Bool, true, false, cond, _&&_}
 use mathlib.Core.List.{[], _∷_}
 use Prim.Native.Nat.{ℕ, _+_, _*_, max}
 use lib.Dec.{eqb, ltb}
+use lib.Ieee.{Float}
+use mathlib.Core.Path.{_≡_}
 use Rattle.laws.specs.Floats.{float}
 use Rattle.frame.specs.Refusal.{firstThat}
 use Rattle.arch_planes.specs.Difference.{meanOf}
@@ -16,7 +18,8 @@ use Rattle.score.specs.Scores.{components, scoreOf}
 use Rattle.stream.specs.declared.Stream.{Stream}
 use Rattle.stream.specs.declared.Sums.{Sums}
 
--- the sums of a frame that is not scored
+-- no sums: all five numbers are 0. They are those of a refused call, of `clear`, and of a frame that has no earlier frame in its stretch
+-- (RULES 4.4).
 abbrev pub noSums : Sums
 noSums = record { hue = 0; saturation = 0; luma = 0; edges = 0; count = 0 }
 
@@ -46,6 +49,16 @@ nextStream s w h weights sums =
 abbrev pub componentsShown : MaybeComponents → Components
 componentsShown noComponents = components (float 0) (float 0) (float 0) (float 0)
 componentsShown (someComponents c) = c
+
+-- What the five whole numbers of an answer say of its components and its score, under these weights (RULES 6.8): a reader who has the answer and
+-- the weights works out both again.
+pub record FromSums (weights : Components) (score : MaybeScore) (deltas : Components) (sums : Sums) : Type 0 where
+  -- the components are the four sums over the count
+  pub means : deltas ≡ componentsOf sums
+  -- a score is the score of these components
+  pub scored : (x : Float) → score ≡ someScore x → x ≡ scoreOf (componentsOf sums) weights
+  -- where there is no score all five are 0
+  pub unscored : score ≡ noScore → sums ≡ noSums
 
 -- The first of 12, 13 and 14 that holds, or 0: for n pixels the store has less than 4n bytes (12), the scratch less than
 -- 7n + 2 × max(width, height) bytes (13), or the magnitudes are fewer than n numbers (14). These lengths hold with edges off too (RULES 12.1).

@@ -2,18 +2,32 @@
 // (RULES 12.1). Values go in and come out.
 ghost use mathlib.Core.Path.{_≡_};
 ghost use Prim.Native.Nat.{_≤_, max};
-ghost use Rattle.stream.specs.Stream.{componentsOf, freshStream, isScored, nextStream, componentsShown, memoryRefusal};
+ghost use Rattle.stream.specs.Stream.{noSums, componentsOf, freshStream, isScored, nextStream, componentsShown, memoryRefusal};
 use score::Components;
 use score::MaybeComponents;
 use score::MaybeScore;
 
-// The whole sums of the differences of a frame's planes with those before, and the number of pixels.
+// The whole sums of the differences of a frame's planes with those before, and the number of pixels: what its components and its score
+// come from.
 pub struct Sums {
     pub hue: u32,
     pub saturation: u32,
     pub luma: u32,
     pub edges: u32,
     pub count: u32,
+}
+
+// All five are 0.
+pub fn no_sums() -> Sums
+    ensures { λ r. ⌜ r ≡ noSums ⌝ }
+{
+    Sums {
+        hue: 0,
+        saturation: 0,
+        luma: 0,
+        edges: 0,
+        count: 0,
+    }
 }
 
 // The components: each sum over the count.

@@ -9,8 +9,11 @@ plane-sums-requires c κs = search needs
 returns : tie.Need-returns
 returns c = rw (c .before .if1 .taken) (c .plane-sums .ensures)
 
+no-sums-requires : tie.Need-no-sums-requires
+no-sums-requires c κs = search needs
+
 returns-2 : tie.Need-returns-2
-returns-2 c = rw (c .if1 .left)
+returns-2 c = rw (c .before .if1 .left) (c .no-sums .ensures)
 
 pub sums-if-spec : {M : Type 1} → statement M
-sums-if-spec = tie.close (tie.spec plane-sums-requires returns returns-2)
+sums-if-spec = tie.close (tie.spec plane-sums-requires returns no-sums-requires returns-2)
