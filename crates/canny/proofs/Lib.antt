@@ -1,2 +1,3 @@
 pub mod Composed
 pub mod EdgeBytes
+pub mod Length

@@ -1,9 +1,9 @@
--- The whole sums of an answer give its components and its score (RULES 6.8), for a detector whose calls are `outcomeOf`'s and whose step shows
--- what the frame brings.
+-- The whole sums of an answer give its components and its score (RULES 6.8), and when they are 0 (RULES 4.4), for a detector whose calls are
+-- `outcomeOf`'s and whose step shows the sums, the score and the components of the frame.
 use mathlib.Core.Path.{_≡_, refl, sym, ap, subst}
 use mathlib.Core.Bool.{Bool, true, false, cond}
 use mathlib.Core.List.{List}
-use Prim.Native.Nat.{ℕ}
+use Prim.Native.Nat.{ℕ, _*_}
 use lib.Dec.{eqb}
 use lib.Ieee.{Float}
 use Rattle.laws.specs.Floats.{float}
@@ -13,15 +13,17 @@ use Rattle.score.specs.declared.Components.{Components}
 use Rattle.score.specs.declared.MaybeScore.{MaybeScore}
 use Rattle.score.specs.declared.MaybeScore.the-variants.{None as noScore, Some as someScore}
 use Rattle.score.specs.declared.MaybeComponents.the-variants.{None as noComponents, Some as someComponents}
-use Rattle.score.specs.Scores.{scoreOf}
+use Rattle.score.specs.Scores.{edgesEnabled, scoreOf}
 use Rattle.scoring.specs.Planes.{Planes}
 use Rattle.scoring.specs.Sums.{frameSums}
+use Rattle.scoring.proofs.NoPixels.{no-pixels, no-edges}
 use Rattle.stream.specs.declared.Stream.{Stream}
 use Rattle.stream.specs.declared.Sums.{Sums}
 use Rattle.stream.specs.Stream.{noSums, componentsOf, componentsShown, isScored, nextStream, FromSums}
 use Rattle.frame_call.specs.declared.PictureOptions.{PictureOptions}
 use Rattle.frame_call.specs.declared.Picture.{Picture}
-use Rattle.frame_call.specs.Call.{Memory, Call, luma, bgr, hsv, clear, frameNumber, sumsOf, accepted, pictured, answeredBy, outcomeOf}
+use Rattle.frame_call.specs.Call.{Memory, Call, luma, bgr, hsv, clear, byCall, frameNumber, sumsOf, accepted, pictured, answeredBy, outcomeOf}
+use Rattle.frame_call.proofs.Filled.{Sized, luma-sized, bgr-sized, hsv-sized}
 use Rattle.frame_call.proofs.Runs.{if-accepted, if-refused}
 
 -- ---- a score that is there, and one that is not
@@ -79,3 +81,42 @@ module _ {A : Type 0} (s : Stream) (o : PictureOptions) (bad : Bool) (stepped : 
     call-from (bgr pixels w h stride ts m) = frame-from _ w h _ ts m
     call-from (hsv hs ss vs w h stride ts m) = frame-from _ w h _ ts m
     call-from clear = cleared-from
+
+-- ---- where sums are 0
+
+-- how many pixels the frame of a call has; `clear` has no frame
+abbrev pub pixelsOf : Call → ℕ
+pixelsOf c = byCall (λ u w h p ts m. w * h) 0 c
+
+module _ {A : Type 0} (s : Stream) (o : PictureOptions) (bad : Bool) (stepped : Timestamp → Picture → A) (refused : ℕ → A) (cleared : A) (sums : A → Sums)
+    (step-sums : (ts : Timestamp) (p : Picture) → sums (stepped ts p) ≡ p .sums) (refused-sums : (n : ℕ) → sums (refused n) ≡ noSums) (cleared-sums : sums cleared ≡ noSums) where
+  -- what holds of no sums, and of those of the frame if it is accepted, holds of the answer's
+  frame-sums : (P : Sums → Type 0) → P noSums → (u w h : ℕ) (p : Planes) (ts : Timestamp) (m : Memory) → P (accepted s o w h p (m .store) .answer .sums)
+      → P (sums (answeredBy (stepped ts) refused (pictured s o bad u w h p m .answer)))
+  frame-sums P none u w h p ts m some = by-zero (eqb (frameNumber bad u w h m) 0) refl
+    where
+      by-zero : (b : Bool) → eqb (frameNumber bad u w h m) 0 ≡ b → P (sums (answeredBy (stepped ts) refused (pictured s o bad u w h p m .answer)))
+      by-zero true e = rw (if-accepted s o bad (stepped ts) refused u w h p m e, step-sums ts (accepted s o w h p (m .store) .answer)) some
+      by-zero false e = rw (if-refused s o bad (stepped ts) refused u w h p m e, refused-sums (frameNumber bad u w h m)) none
+
+  empty : (u w h : ℕ) (p : Planes) (ts : Timestamp) (m : Memory) → Sized (w * h) p → w * h ≡ 0 → sums (answeredBy (stepped ts) refused (pictured s o bad u w h p m .answer)) ≡ noSums
+  unfolding accepted
+  empty u w h p ts m z e = frame-sums (λ (x : Sums). x ≡ noSums) refl u w h p ts m (no-pixels _ _ _ w h p (m .store) (z .hues) (z .saturations) (z .lumas) e)
+
+  -- a frame without pixels, and `clear`, bring no sums
+  pub no-pixels-no-sums : (c : Call) → pixelsOf c ≡ 0 → sums (outcomeOf s o bad stepped refused cleared c .answer) ≡ noSums
+  no-pixels-no-sums (luma plane w h stride ts m) e = empty _ w h _ ts m (luma-sized plane w h stride) e
+  no-pixels-no-sums (bgr pixels w h stride ts m) e = empty _ w h _ ts m (bgr-sized pixels w h stride) e
+  no-pixels-no-sums (hsv hs ss vs w h stride ts m) e = empty _ w h _ ts m (hsv-sized hs ss vs w h stride) e
+  no-pixels-no-sums clear e = cleared-sums
+
+  flat : edgesEnabled (o .weights) ≡ false → (u w h : ℕ) (p : Planes) (ts : Timestamp) (m : Memory) → sums (answeredBy (stepped ts) refused (pictured s o bad u w h p m .answer)) .edges ≡ 0
+  unfolding accepted
+  flat e u w h p ts m = frame-sums (λ (x : Sums). x .edges ≡ 0) refl u w h p ts m (rw e (no-edges _ _ w h p (m .store)))
+
+  -- with edges off there is no edge sum
+  pub edges-off : edgesEnabled (o .weights) ≡ false → (c : Call) → sums (outcomeOf s o bad stepped refused cleared c .answer) .edges ≡ 0
+  edges-off e (luma plane w h stride ts m) = flat e _ w h _ ts m
+  edges-off e (bgr pixels w h stride ts m) = flat e _ w h _ ts m
+  edges-off e (hsv hs ss vs w h stride ts m) = flat e _ w h _ ts m
+  edges-off e clear = ap (λ (x : Sums). x .edges) cleared-sums

@@ -1,3 +1,4 @@
 pub mod Lengths
 pub mod Memory
 pub mod Framed
+pub mod NoPixels
