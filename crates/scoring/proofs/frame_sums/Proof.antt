@@ -16,7 +16,7 @@ small : (c : tie.Start) → c .args .w * c .args .h ≤ 2 ^ 24
 small c = product-le {m = 4096} {n = 4096} (c .pre .0 .0) (c .pre .0 .1)
 
 sums-if-requires : tie.Need-sums-if-requires
-sums-if-requires c κs = (small (c .before .before .before .before), (omega arith, omega arith))
+sums-if-requires c κs = (omega (arith, small (c .before .before .before .before)), (omega arith, omega arith))
 
 keep-planes-requires : tie.Need-keep-planes-requires
 keep-planes-requires c κs = search needs
