@@ -1,4 +1,5 @@
 -- The adaptive detector as the station calls it: its record in words, the results of its calls, and what settings return.
+use Rattle.score.specs.declared.Components.{Components}
 use Rattle.adaptive.specs.declared.Detector.{Detector}
 use Rattle.adaptive.specs.declared.Answer.{Answer}
 use Rattle.adaptive.specs.declared.Settled.{Settled}
@@ -8,9 +9,13 @@ use Rattle.adaptive.specs.Step.{called}
 use Rattle.adaptive_words.specs.Record.{adaptiveWords, adaptiveOf}
 use Rattle.station_answer.specs.Contracts.{Layout, Brought, Started}
 
--- the record of the adaptive detector in words
+-- the weights that a detector scores by
+abbrev pub weightsOf : Detector → Components
+weightsOf d = d .options .weights
+
+-- the record of the adaptive detector in words, and its weights
 abbrev pub adaptiveLayout : Layout Detector
-adaptiveLayout = record { wordsOf = adaptiveWords; heldBy = adaptiveOf }
+adaptiveLayout = record { wordsOf = adaptiveWords; heldBy = adaptiveOf; weightsOf = weightsOf }
 
 -- the result of a call, by the outcome that the detector's definition gives
 abbrev pub broughtBy : Outcome Answer → Brought Detector
@@ -21,6 +26,7 @@ broughtBy o =
       cut = o .answer .cut;
       score = o .answer .score;
       components = o .answer .components;
+      sums = o .answer .sums;
       store = o .store;
     }
 

@@ -4,6 +4,7 @@ use mathlib.Core.List.{[], _∷_}
 use Prim.Native.Nat.{ℕ}
 use lib.Dec.{eqb}
 use Rattle.frame.specs.Refusal.{firstThat}
+use Rattle.score.specs.declared.Components.{Components}
 use Rattle.content.specs.declared.Detector.{Detector}
 use Rattle.content.specs.declared.Answer.{Answer}
 use Rattle.content.specs.declared.Options.{Options}
@@ -16,9 +17,13 @@ use Rattle.content_words.specs.Record.{contentWords, contentOf}
 use Rattle.station_answer.specs.Settings.{noMode}
 use Rattle.station_answer.specs.Contracts.{Layout, Brought, Started}
 
--- the record of the content detector in words
+-- the weights that a detector scores by
+abbrev pub weightsOf : Detector → Components
+weightsOf d = d .options .weights
+
+-- the record of the content detector in words, and its weights
 abbrev pub contentLayout : Layout Detector
-contentLayout = record { wordsOf = contentWords; heldBy = contentOf }
+contentLayout = record { wordsOf = contentWords; heldBy = contentOf; weightsOf = weightsOf }
 
 -- the result of a call, by the outcome that the detector's definition gives
 abbrev pub broughtBy : Outcome Answer → Brought Detector
@@ -29,6 +34,7 @@ broughtBy o =
       cut = o .answer .cut;
       score = o .answer .score;
       components = o .answer .components;
+      sums = o .answer .sums;
       store = o .store;
     }
 
