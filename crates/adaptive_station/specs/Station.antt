@@ -1,5 +1,4 @@
 -- The adaptive detector as the station calls it: its record in words, the results of its calls, and what settings return.
-use Rattle.score.specs.declared.Components.{Components}
 use Rattle.adaptive.specs.declared.Detector.{Detector}
 use Rattle.adaptive.specs.declared.Answer.{Answer}
 use Rattle.adaptive.specs.declared.Settled.{Settled}
@@ -9,13 +8,9 @@ use Rattle.adaptive.specs.Step.{called}
 use Rattle.adaptive_words.specs.Record.{adaptiveWords, adaptiveOf}
 use Rattle.station_answer.specs.Contracts.{Layout, Brought, Started}
 
--- the weights that a detector scores by
-abbrev pub weightsOf : Detector → Components
-weightsOf d = d .options .weights
-
 -- the record of the adaptive detector in words, and its weights
 abbrev pub adaptiveLayout : Layout Detector
-adaptiveLayout = record { wordsOf = adaptiveWords; heldBy = adaptiveOf; weightsOf = weightsOf }
+adaptiveLayout = record { wordsOf = adaptiveWords; heldBy = adaptiveOf; weightsOf = λ (d : Detector). d .options .weights }
 
 -- the result of a call, by the outcome that the detector's definition gives
 abbrev pub broughtBy : Outcome Answer → Brought Detector

@@ -4,7 +4,6 @@ use mathlib.Core.List.{[], _∷_}
 use Prim.Native.Nat.{ℕ}
 use lib.Dec.{eqb}
 use Rattle.frame.specs.Refusal.{firstThat}
-use Rattle.score.specs.declared.Components.{Components}
 use Rattle.content.specs.declared.Detector.{Detector}
 use Rattle.content.specs.declared.Answer.{Answer}
 use Rattle.content.specs.declared.Options.{Options}
@@ -17,13 +16,9 @@ use Rattle.content_words.specs.Record.{contentWords, contentOf}
 use Rattle.station_answer.specs.Settings.{noMode}
 use Rattle.station_answer.specs.Contracts.{Layout, Brought, Started}
 
--- the weights that a detector scores by
-abbrev pub weightsOf : Detector → Components
-weightsOf d = d .options .weights
-
 -- the record of the content detector in words, and its weights
 abbrev pub contentLayout : Layout Detector
-contentLayout = record { wordsOf = contentWords; heldBy = contentOf; weightsOf = weightsOf }
+contentLayout = record { wordsOf = contentWords; heldBy = contentOf; weightsOf = λ (d : Detector). d .options .weights }
 
 -- the result of a call, by the outcome that the detector's definition gives
 abbrev pub broughtBy : Outcome Answer → Brought Detector
