@@ -385,8 +385,8 @@ static inline double mw_delta(const struct mw_answer *answer, uint32_t place)
     return delta;
 }
 
-/* The whole sum of the differences of a plane, by its place: 0 hue, 1 saturation, 2 luma, 3 edges. 0 if the frame has no
- * score, and at any other place. */
+/* The whole sum of the differences of a plane, by its place: 0 hue, 1 saturation, 2 luma, 3 edges. 0 if the frame has
+ * no score, and at any other place. */
 static inline uint32_t mw_sum(const struct mw_answer *answer, uint32_t place)
 {
     return place < 4 ? (uint32_t)answer->words[8 + place] : 0;

@@ -49,10 +49,10 @@
 //! # Sums
 //!
 //! An answer also has the whole numbers that its components come from, [`Sums`]: for each plane the sum of the absolute
-//! differences of all pixels, and for all four planes one count, the number of pixels. A component is its sum divided by
-//! the count, once, in `f64`, or 0.0 if the count is 0. So the five numbers and the weights give the components and the
-//! score again, to the last bit. This makes two stations comparable: where their five numbers for a frame are equal, equal
-//! weights give equal scores; where one differs, the pictures differ, and not the rounding.
+//! differences of all pixels, and for all four planes one count, the number of pixels. A component is its sum divided
+//! by the count, once, in `f64`, or 0.0 if the count is 0. So the five numbers and the weights give the components and
+//! the score again, to the last bit. This makes two stations comparable: where their five numbers for a frame are
+//! equal, equal weights give equal scores; where one differs, the pictures differ, and not the rounding.
 //!
 //! # Frames without a score
 //!
