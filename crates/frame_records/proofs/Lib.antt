@@ -1,1 +1,4 @@
 pub mod Locals
+pub mod OnePlane
+pub mod Parts
+pub mod ThreePlanes
