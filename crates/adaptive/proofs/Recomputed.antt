@@ -37,7 +37,7 @@ recomputed d c =
 pub from-called : (d : Detector) (c : Call) (r : Answer) (n : ℕ) (m m′ : Memory) → Called (called d c) r n m m′ → Recomputed d r
 from-called d c r n m m′ made = subst (Recomputed d) (sym (made .answered)) (recomputed d c)
 
--- ---- where an answer's sums are 0 (RULES 4.4); that they are where it has no score is in `FromSums`
+-- ---- where an answer's sums are 0 (RULES 4.4, 4.5); that they are where it has no score is in `FromSums`
 
 cleared-sums : (d : Detector) → clearedAnswer d .sums ≡ noSums
 unfolding clearedAnswer

@@ -1,4 +1,4 @@
--- The whole sums of an answer give its components and its score (RULES 6.8), and when they are 0 (RULES 4.4), for a detector whose calls are
+-- The whole sums of an answer give its components and its score (RULES 6.8), and when they are 0 (RULES 4.4, 4.5), for a detector whose calls are
 -- `outcomeOf`'s and whose step shows the sums, the score and the components of the frame.
 use mathlib.Core.Path.{_≡_, refl, sym, ap, subst}
 use mathlib.Core.Bool.{Bool, true, false, cond}

@@ -57,7 +57,7 @@ pub record Outcome (A : Type 0) : Type 0 where
   pub answer : A
   pub store : List ℕ
 
--- the sums of the differences of an accepted frame's planes with the store (RULES 4.3); all are 0 where it is not scored
+-- the sums of the differences of an accepted frame's planes with the store (RULES 4.4); all are 0 where it is not scored (RULES 4.5)
 abbrev pub sumsOf : PictureOptions → (scored : Bool) (width height : ℕ) → Planes → (store : List ℕ) → Sums
 sumsOf o scored w h p store = frameSums (edgesEnabled (o .weights)) scored (kernelOf (o .«kernel_size») w h) w h p store
 

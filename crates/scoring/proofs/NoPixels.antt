@@ -1,4 +1,4 @@
--- A frame without pixels has no sums, scored or not, with edges on or off (RULES 4.4); and with edges off there is no edge sum.
+-- A frame without pixels has no sums, scored or not, with edges on or off (RULES 4.5); and with edges off there is no edge sum (RULES 4.4).
 use mathlib.Core.Path.{_≡_, refl, _∙_}
 use mathlib.Core.Bool.{Bool, true, false, cond}
 use mathlib.Core.List.{List}

@@ -23,7 +23,7 @@ planeSums n p e store =
     let diff : List ℕ → List ℕ → ℕ = sumAbsDiff in
     record { hue = diff (p .hue) (huePart n store); saturation = diff (p .saturation) (saturationPart n store); luma = diff (p .luma) (lumaPart n store); edges = e; count = n }
 
--- the sums of an accepted frame of w columns and h rows; with edges off the edge sum is 0; all are 0 where the frame is not scored (RULES 4.3)
+-- the sums of an accepted frame of w columns and h rows; with edges off the edge sum is 0; all are 0 where the frame is not scored (RULES 4.3 to 4.5)
 unfoldable pub frameSums : (edges scored : Bool) (k w h : ℕ) → Planes → List ℕ → Sums
 frameSums edges scored k w h p store =
     let edge = cond edges (sumAbsDiff (edgePlane (p .luma) w h k) (edgePart (w * h) store)) 0 in

@@ -1,5 +1,5 @@
 // What both detectors do with a frame's pixels: its packed planes (RULES 2.7), the sums of their differences with those of the store
-// (RULES 4.3), and the store after it (RULES 12.3).
+// (RULES 4.3, 4.4), and the store after it (RULES 12.3).
 ghost use mathlib.Core.Path.{_≡_};
 ghost use mathlib.Core.Bool.{cond};
 ghost use mathlib.Core.List.{_++_};

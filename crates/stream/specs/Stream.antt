@@ -1,11 +1,11 @@
 -- What both detectors keep of the stream of frames: whether there is a previous frame, its width and height, and the last score with its
 -- components (RULES 6.5, 8.3).
+use mathlib.Core.Path.{_≡_}
 use mathlib.Core.Bool.{Bool, true, false, cond, _&&_}
 use mathlib.Core.List.{[], _∷_}
 use Prim.Native.Nat.{ℕ, _+_, _*_, max}
 use lib.Dec.{eqb, ltb}
 use lib.Ieee.{Float}
-use mathlib.Core.Path.{_≡_}
 use Rattle.laws.specs.Floats.{float}
 use Rattle.frame.specs.Refusal.{firstThat}
 use Rattle.arch_planes.specs.Difference.{meanOf}
@@ -19,7 +19,7 @@ use Rattle.stream.specs.declared.Stream.{Stream}
 use Rattle.stream.specs.declared.Sums.{Sums}
 
 -- no sums: all five numbers are 0. They are those of a refused call, of `clear`, and of a frame that has no earlier frame in its stretch
--- (RULES 4.4).
+-- (RULES 4.5).
 abbrev pub noSums : Sums
 noSums = record { hue = 0; saturation = 0; luma = 0; edges = 0; count = 0 }
 

@@ -1,4 +1,4 @@
-// What both detectors keep of the stream of frames (RULES 6.5, 8.3), the sums of a frame's differences (RULES 4.3), and refusals 12 to 14
+// What both detectors keep of the stream of frames (RULES 6.5, 8.3), the sums of a frame's differences (RULES 4.4), and refusals 12 to 14
 // (RULES 12.1). Values go in and come out.
 ghost use mathlib.Core.Path.{_≡_};
 ghost use Prim.Native.Nat.{_≤_, max};
