@@ -52,7 +52,8 @@
 //! differences of all pixels, and for all four planes one count, the number of pixels. A component is its sum divided
 //! by the count, once, in `f64`, or 0.0 if the count is 0. So the five numbers and the weights give the components and
 //! the score again, to the last bit. This makes two stations comparable: where their five numbers for a frame are
-//! equal, equal weights give equal scores; where one differs, the pictures differ, and not the rounding.
+//! equal, equal weights give equal components, and equal scores if both have one; where a number differs, that is not
+//! rounding: the frames differ, or the settings for edges.
 //!
 //! # Frames without a score
 //!
