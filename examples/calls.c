@@ -288,10 +288,26 @@ static void show(const struct mw_answer *answer)
         printf("0 ");
     for (uint32_t place = 0; place < 5; place++)
         value(CALL(mw_delta, (answer, place)));
+    for (uint32_t place = 0; place < 5; place++)
+        printf("%lu ", (unsigned long)CALL(mw_sum, (answer, place)));
+    printf("%lu ", (unsigned long)CALL(mw_sum, (answer, UINT32_MAX)));
+    printf("%lu ", (unsigned long)CALL(mw_count, (answer)));
+}
+
+/* Whether an answer has neither a cut nor a score, and its sums and its count are 0. */
+static int nothing(const struct mw_answer *answer)
+{
+    int64_t cut;
+    double score;
+
+    for (uint32_t place = 0; place < 4; place++)
+        if (mw_sum(answer, place) != 0)
+            return 0;
+    return mw_count(answer) == 0 && !mw_cut(answer, &cut) && !mw_score(answer, &score);
 }
 
 /* The sum of each plane in the store, and whether the rest was kept. */
-static void sums(const uint8_t *store, int rest)
+static void show_store(const uint8_t *store, int rest)
 {
     printf("store");
     for (int plane = 0; plane < 4; plane++) {
@@ -323,9 +339,9 @@ static void show_film(struct detector *d, int feeding)
             int rest = 1;
             for (size_t place = STORE; place < memory.store_len; place++)
                 rest = rest && memory.store[place] == 0;
-            sums(memory.store, rest);
+            show_store(memory.store, rest);
         } else {
-            sums(own.store, kept(&f));
+            show_store(own.store, kept(&f));
         }
     }
     readers(d);
@@ -406,8 +422,6 @@ static void refused(const struct detector *settled, struct mw_memory *memory)
                        same(&d, &before) && memcmp(&own, &own_before, sizeof own) == 0 ? "as before" : "changed");
             } else {
                 struct mw_memory part = *memory;
-                int64_t cut;
-                double score;
 
                 memset(&part.answer, FILL, sizeof part.answer);
                 part.answer.words[0] = part.answer.words[2] = 1;
@@ -416,9 +430,7 @@ static void refused(const struct detector *settled, struct mw_memory *memory)
                 part.magnitudes_len -= fault == SHORT_MAGNITUDES ? 1 : 0;
                 number = feed(&d, first(kind)->kind, &f, &part);
                 printf("%u %s\n", (unsigned)number,
-                       same(&d, &before) && !mw_cut(&part.answer, &cut) && !mw_score(&part.answer, &score)
-                           ? "no cut and no score"
-                           : "changed");
+                       same(&d, &before) && nothing(&part.answer) ? "no cut, no score, no sums" : "changed");
             }
         }
 }
@@ -432,16 +444,13 @@ static void empty(const struct detector *settled, struct mw_memory *memory)
         for (int i = 0; i < 7; i++) {
             struct frame f = faulty(first(kind), i < 5 ? faults[i] : FAULTS);
             struct detector d = *settled;
-            int64_t cut;
-            double score;
 
             if (i == 0)
                 spoil(&d);
             f.width = i > 4 ? 0 : f.width;
             f.height = i > 5 ? 0 : f.height;
             printf("%u ", (unsigned)feed(&d, first(kind)->kind, &f, memory));
-            printf("%s\n", mw_cut(&memory->answer, &cut) || mw_score(&memory->answer, &score) ? "a cut or a score"
-                                                                                             : "no cut and no score");
+            printf("%s\n", nothing(&memory->answer) ? "no cut, no score, no sums" : "an answer");
         }
 }
 

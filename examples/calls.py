@@ -154,20 +154,21 @@ class Detector:
         return planes + [[self.fill] * (WIDTH * HEIGHT)]
 
     def frame(self, picture):
-        """The cut, the score and the components of a frame of WIDTH x HEIGHT."""
+        """The cut, the score, the components, the sums and the count of a frame of WIDTH x HEIGHT."""
         planes = self.store(picture)
         before, self.previous = self.previous, planes
         self.width, self.height = WIDTH, HEIGHT
         if before is None:
             self.score = self.deltas = None
             self.unscored()
-            return None, None, [0.0] * 4
+            return None, None, [0.0] * 4, [0] * 4, 0
         n = WIDTH * HEIGHT
-        self.deltas = [sum(abs(a - b) for a, b in zip(*pair)) / n for pair in zip(planes, before)]
+        sums = [sum(abs(a - b) for a, b in zip(*pair)) for pair in zip(planes, before)]  # RULES 4.4
+        self.deltas = [x / n for x in sums]
         h, s, l, e = self.deltas
         wh, ws, wl, we = self.weights
         self.score = (h * wh + s * ws + l * wl + e * we) / (abs(wh) + abs(ws) + abs(wl) + abs(we))
-        return self.scored(picture[1]), self.score, self.deltas
+        return self.scored(picture[1]), self.score, self.deltas, sums, n
 
     def seed(self, ts):
         return max(ts - self.min_duration, -2 ** 63) if self.initial_cut else ts
@@ -309,17 +310,19 @@ def numbers():
     print("mw_version MW_VERSION")
     print("mw_content_words", 27)
     print("mw_adaptive_words", 288)
-    print("mw_answer_words", 8)
+    print("mw_answer_words", 13)
     for width, height in ((12, 9), (9, 12), (4096, 3), (3, 4096), (4097, 3), (3, 4097)):
         print("mw_store_bytes %d mw_scratch_bytes %d mw_magnitudes %d" % memory(width, height))
     for i, text in enumerate(TEXTS):
         print("mw_text", i, text)
 
 
-def answer(cut, score, deltas):
+def answer(cut, score, deltas, sums, count):
+    """A reader by place gives 0 at a place that does not exist: at 4, and for a sum at 2^32 - 1 too."""
     parts = ["mw_cut 0" if cut is None else f"mw_cut 1 {cut}"]
     parts += ["mw_score 0" if score is None else f"mw_score 1 {number(score)}"]
-    return " ".join(parts + ["mw_delta " + number(x) for x in list(deltas) + [0.0]])
+    parts += ["mw_delta " + number(x) for x in list(deltas) + [0.0]]
+    return " ".join(parts + [f"mw_sum {x}" for x in sums + [0, 0]] + [f"mw_count {count}"])
 
 
 def readers(name, detector):
@@ -359,7 +362,7 @@ def refused(name, feed):
     for the three planes, so that 4 and 5 do not occur."""
     for kind in ("luma", "bgr", "hsv"):
         for fault in [15, 1, 1, 2, 3] + ([4, 5] if kind == "hsv" and not feed else []) + [12, 13, 14]:
-            print(f"mw_{name}_{'feed_' if feed else ''}{kind}", fault, "no cut and no score" if feed else "as before")
+            print(f"mw_{name}_{'feed_' if feed else ''}{kind}", fault, "no cut, no score, no sums" if feed else "as before")
 
 
 def empty(name):
@@ -367,7 +370,7 @@ def empty(name):
     pixels (12), a frame without pixels of height 9, which needs 18 bytes of scratch (13), a frame of 0 x 0 (0)."""
     for kind in ("luma", "bgr", "hsv"):
         for fault in (15, 1, 2, 3, 12, 13, 0):
-            print(f"mw_{name}_feed_{kind}", fault, "no cut and no score")
+            print(f"mw_{name}_feed_{kind}", fault, "no cut, no score, no sums")
 
 
 def detector_calls(name, default, made):

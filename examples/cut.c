@@ -1,6 +1,6 @@
-/* Uses the station library from C, with frames of one pixel: a film with the default settings, a BGR frame by a call
- * without struct mw_memory, an HSV frame, the readers, the two filter modes, the adaptive detector, and calls that are
- * refused. cut_c.stdout is what it must print, worked out by hand. It compiles as C99 and as C++17. */
+/* Uses the station library from C, with frames of one or two pixels: a film with the default settings, a BGR frame by a
+ * call without struct mw_memory, an HSV frame, the readers, the two filter modes, the adaptive detector, and calls that
+ * are refused. cut_c.stdout is what it must print, worked out by hand. It compiles as C99 and as C++17. */
 #include "mawerodu.h"
 
 #include <stdio.h>
@@ -10,7 +10,7 @@ struct frame {
     uint8_t luma;
 };
 
-/* Score, components and cut of an answer; nothing if there is no score. */
+/* Score, components, sums, count and cut of an answer; nothing if there is no score. */
 static void show(const char *name, const struct mw_answer *answer)
 {
     int64_t cut;
@@ -21,6 +21,10 @@ static void show(const char *name, const struct mw_answer *answer)
     printf("%s %.1f:", name, score);
     for (uint32_t place = 0; place < 4; place++)
         printf(" %.1f", mw_delta(answer, place));
+    printf(", sums");
+    for (uint32_t place = 0; place < 4; place++)
+        printf(" %lu", (unsigned long)mw_sum(answer, place));
+    printf(" over %lu", (unsigned long)mw_count(answer));
     if (mw_cut(answer, &cut))
         printf(", cut at %lld", (long long)cut);
     printf("\n");
@@ -44,17 +48,18 @@ static int film(struct mw_content *state, struct mw_memory *memory)
     return mw_content_clear(state) == MW_OK;
 }
 
-/* Black, then red: hue 0, saturation 255, value 255, and (255 + 255) / 3. The memory is arrays of our own. */
+/* Two black pixels, of which one turns red: hue 0, saturation and value 255. Each component is its sum over 2, and the
+ * score (127.5 + 127.5) / 3. The memory is arrays of our own. */
 static int bgr(struct mw_content *state)
 {
-    static const uint8_t black[3] = {0, 0, 0}, red[3] = {0, 0, 255};
-    static uint8_t store[MW_STORE_BYTES(1, 1)], scratch[MW_SCRATCH_BYTES(1, 1)];
-    static int32_t magnitudes[MW_MAGNITUDES(1, 1)];
+    static const uint8_t black[6] = {0, 0, 0, 0, 0, 0}, red[6] = {0, 0, 255, 0, 0, 0};
+    static uint8_t store[MW_STORE_BYTES(2, 1)], scratch[MW_SCRATCH_BYTES(2, 1)];
+    static int32_t magnitudes[MW_MAGNITUDES(2, 1)];
     struct mw_answer answer;
 
     for (int i = 0; i < 2; i++) {
-        if (mw_content_bgr(state, &answer, i ? red : black, 3, 1, 1, 3, i * 40000, store, sizeof store, scratch,
-                           sizeof scratch, magnitudes, MW_MAGNITUDES(1, 1)) != MW_OK)
+        if (mw_content_bgr(state, &answer, i ? red : black, 6, 2, 1, 6, i * 40000, store, sizeof store, scratch,
+                           sizeof scratch, magnitudes, MW_MAGNITUDES(2, 1)) != MW_OK)
             return 0;
         show("bgr", &answer);
     }

@@ -1,6 +1,6 @@
 // Cuts a film of four frames of one pixel, with the content detector's default settings: a cut at 400000. Then the state, the
-// settings and the refusals, and the adaptive detector on a longer film.
-use mawerodu::{AdaptiveDetector, AdaptiveOptions, Components, ContentDetector, ContentOptions, Refusal};
+// settings and the refusals, the sums that a score comes from, and the adaptive detector on a longer film.
+use mawerodu::{AdaptiveDetector, AdaptiveOptions, Components, ContentDetector, ContentOptions, Refusal, Sums};
 
 const FILM: [(i64, u8); 4] = [(0, 0), (400000, 200), (900000, 0), (2000000, 0)];
 
@@ -41,6 +41,17 @@ fn main() -> Result<(), Refusal> {
         assert_eq!(detector.process_luma(&[10], 1, 1, 1, 0)?.score, None);
         assert_eq!(detector.process_luma(&[100], 1, 1, 1, 40000)?.score, Some(score));
     }
+
+    // two pixels: hue differs by 10 and 5, saturation by 0 and 3, value by 20 and 22, so the score is (7.5 + 1.5 + 21) / 3
+    let mut detector = ContentDetector::new();
+    let first = detector.process_hsv(&[10, 30], &[50, 60], &[100, 120], 2, 1, 2, 0)?;
+    let second = detector.process_hsv(&[20, 35], &[50, 63], &[120, 98], 2, 1, 2, 40000)?;
+    println!("score {:?}, {:?}", second.score, second.sums);
+    // without a score, and without pixels, all five are 0
+    assert_eq!((first.score, first.sums), (None, Sums::default()));
+    detector.process_luma(&[], 0, 0, 0, 80000)?;
+    let empty = detector.process_luma(&[], 0, 0, 0, 120000)?;
+    assert_eq!((empty.score, empty.sums), (Some(0.0), Sums::default()));
 
     let window = AdaptiveOptions { window_width: 1, ..AdaptiveOptions::default() };
     let mut adaptive = AdaptiveDetector::with_options(window)?;

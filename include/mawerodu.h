@@ -10,8 +10,8 @@
  * returns the number of the first refusal that applies and changes nothing; a refused settings call sets the defaults.
  * The library allocates nothing, keeps no pointer and has no global data.
  *
- * The inline functions of this header are plain C, and no proof speaks of them: mw_text, mw_cut, mw_score, mw_delta and
- * those of struct mw_memory.
+ * The inline functions of this header are plain C, and no proof speaks of them: mw_text, mw_cut, mw_score, mw_delta,
+ * mw_sum, mw_count and those of struct mw_memory.
  *
  * Quick start (this is checked: examples/run of the source tree compiles and runs it):
  *
@@ -52,7 +52,7 @@ extern "C" {
 /* ---- Version ---- */
 
 #define MW_VERSION_MAJOR 0
-#define MW_VERSION_MINOR 2
+#define MW_VERSION_MINOR 3
 #define MW_VERSION_PATCH 0
 #define MW_VERSION ((MW_VERSION_MAJOR << 16) | (MW_VERSION_MINOR << 8) | MW_VERSION_PATCH)
 
@@ -64,7 +64,7 @@ uint32_t mw_version(void);
 
 #define MW_CONTENT_WORDS 27
 #define MW_ADAPTIVE_WORDS 288
-#define MW_ANSWER_WORDS 8
+#define MW_ANSWER_WORDS 13
 
 /* The state of a detector: its settings and all that it keeps from one call to the next, except the planes of the last
  * frame, which are in the store. A settings call makes it. It holds no pointer, so it may be copied, and kept in a file
@@ -76,7 +76,7 @@ struct mw_adaptive {
     uint64_t words[MW_ADAPTIVE_WORDS];
 };
 
-/* The result of an accepted frame. Read it with mw_cut, mw_score and mw_delta. */
+/* The result of an accepted frame. Read it with mw_cut, mw_score, mw_delta, mw_sum and mw_count. */
 struct mw_answer {
     uint64_t words[MW_ANSWER_WORDS];
 };
@@ -116,8 +116,8 @@ uint64_t mw_magnitudes(uint32_t width, uint32_t height);
  *   clear             15
  * A frame or clear that is refused changes nothing: not the state, not the answer, no byte that it is lent. The answer
  * is then still that of an earlier call: do not read it. Only the feed calls, those with a struct mw_memory, empty the
- * answer first: after a refusal it has no cut and no score. Settings that are refused make a state with the default
- * settings. */
+ * answer first: after a refusal it has no cut and no score, and its sums and its count are 0. Settings that are refused
+ * make a state with the default settings. */
 enum mw_number {
     MW_OK = 0,
     MW_TOO_LARGE = 1,        /* width or height over 4,096 */
@@ -259,6 +259,16 @@ uint32_t mw_adaptive_new(struct mw_adaptive *state, double threshold, uint64_t m
  *
  * in double, from left to right, each step rounded once.
  *
+ * Sums and count: an answer also has the whole numbers that its components come from. For each plane it has the sum of
+ * the absolute differences of all pixels, at most 255 * 2^24, and for all four planes one count, the number of pixels,
+ * width * height. A component is its sum / count, one division in double, or 0 where the count is 0. So the five
+ * numbers and the weights give the components and the score again, to the last bit. This makes two stations comparable:
+ * where their five numbers for a frame are equal, equal weights give equal scores; where one differs, the pictures
+ * differ, and not the rounding.
+ *
+ * All five are 0 for a frame that has no score (see below), and for a frame that has no pixels. The sum of edges that
+ * are off is 0. A refused frame has no sums: a plain call leaves the answer as it was, a feed call makes all five 0.
+ *
  * Luma frames with the default weights: h and s are 0, so the score is a third of the luma difference, and the default
  * threshold of 27 is reached at a luma difference of 81. With MW_LUMA_WEIGHTS it is reached at 27.
  *
@@ -375,6 +385,19 @@ static inline double mw_delta(const struct mw_answer *answer, uint32_t place)
     return delta;
 }
 
+/* The whole sum of the differences of a plane, by its place: 0 hue, 1 saturation, 2 luma, 3 edges. 0 if the frame has
+ * no score, and at any other place. */
+static inline uint32_t mw_sum(const struct mw_answer *answer, uint32_t place)
+{
+    return place < 4 ? (uint32_t)answer->words[8 + place] : 0;
+}
+
+/* The number of pixels that each sum is over: a component is its sum / count. 0 if the frame has no score. */
+static inline uint32_t mw_count(const struct mw_answer *answer)
+{
+    return (uint32_t)answer->words[12];
+}
+
 /* Of a state, as the last accepted call left it: score and components of the last frame; in the adaptive detector also
  * ratio and score of the last target. Each has_ function returns 1 or 0, and the value is 0.0 where there is none. The
  * place of a component is 0 for hue, 1 for saturation, 2 for luma, 3 for edges; any other place gives 0.0. Readers
@@ -398,7 +421,7 @@ double mw_adaptive_target(const struct mw_adaptive *state);
  * One struct mw_memory belongs to one state, since it has the store. These functions are plain C on top of the library:
  * no proof speaks of them. */
 struct mw_memory {
-    struct mw_answer answer; /* of the last frame that was fed; no cut and no score if that was refused */
+    struct mw_answer answer; /* of the last frame that was fed; if that was refused: no cut, no score, sums of 0 */
     uint8_t *store;
     uint8_t *scratch;
     int32_t *magnitudes;
@@ -541,6 +564,8 @@ static inline uint32_t mw_adaptive_feed_hsv(struct mw_adaptive *state, struct mw
  *     0, 1             has, timestamp of the cut
  *     2, 3             has, score
  *     4-7              components: hue, saturation, luma, edges
+ *     8-11             sums: hue, saturation, luma, edges
+ *     12               count
  *
  *   content  adaptive
  *       0        0     version of the layout: 0x4d57434f4e543031 (MWCONT01) or 0x4d57414441503031 (MWADAP01)

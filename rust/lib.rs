@@ -46,6 +46,14 @@
 //! The edge plane is computed only if the weight of edges is not zero. It has no edges if a side of the frame is below
 //! 3.
 //!
+//! # Sums
+//!
+//! An answer also has the whole numbers that its components come from, [`Sums`]: for each plane the sum of the absolute
+//! differences of all pixels, and for all four planes one count, the number of pixels. A component is its sum divided
+//! by the count, once, in `f64`, or 0.0 if the count is 0. So the five numbers and the weights give the components and
+//! the score again, to the last bit. This makes two stations comparable: where their five numbers for a frame are
+//! equal, equal weights give equal scores; where one differs, the pictures differ, and not the rounding.
+//!
 //! # Frames without a score
 //!
 //! The first frame of a detector has no score, because there is no frame before it. It is never a cut. The same holds
@@ -76,7 +84,7 @@ use std::fmt;
 pub mod sys {
     pub const CONTENT_WORDS: usize = 27;
     pub const ADAPTIVE_WORDS: usize = 288;
-    pub const ANSWER_WORDS: usize = 8;
+    pub const ANSWER_WORDS: usize = 13;
 
     /// The state of a content detector.
     pub type ContentState = [u64; CONTENT_WORDS];
@@ -210,7 +218,7 @@ pub mod sys {
 
 /// The version of this wrapper: major, minor, patch. A library whose major and minor number are these has the functions
 /// that `sys` declares. Each constructor of a detector checks that, and panics if the linked library is another.
-pub const VERSION: (u32, u32, u32) = (0, 2, 0);
+pub const VERSION: (u32, u32, u32) = (0, 3, 0);
 
 /// The version of the library that is linked: major, minor, patch.
 pub fn version() -> (u32, u32, u32) {
@@ -286,6 +294,21 @@ impl Default for Components {
     }
 }
 
+/// The whole numbers that the components of a frame come from. All five are 0 if the frame has no score or no pixels.
+#[derive(Clone, Copy, Debug, Default, PartialEq, Eq)]
+pub struct Sums {
+    /// The sum of the absolute differences of the hue plane.
+    pub hue: u32,
+    /// That of the saturation plane.
+    pub saturation: u32,
+    /// That of the luma plane.
+    pub luma: u32,
+    /// That of the edge plane; 0 if edges are off.
+    pub edges: u32,
+    /// The number of pixels, width * height.
+    pub count: u32,
+}
+
 /// The result of an accepted frame.
 #[derive(Clone, Copy, Debug, PartialEq)]
 pub struct Answer {
@@ -297,6 +320,8 @@ pub struct Answer {
     pub score: Option<f64>,
     /// The components that the score is computed from; four times 0.0 if there is no score.
     pub components: Components,
+    /// The sums and the count that the components are computed from; five times 0 if there is no score.
+    pub sums: Sums,
 }
 
 /// How the content detector keeps cuts `min_duration` apart. A frame is *above* if its score is at or over the
@@ -447,16 +472,18 @@ impl Lent {
 
 fn answer_of(w: &sys::Answer) -> Answer {
     let float = |i: usize| f64::from_bits(w[i]);
+    let whole = |i: usize| w[i] as u32;
     Answer {
         cut: (w[0] == 1).then_some(w[1] as i64),
         score: (w[2] == 1).then(|| float(3)),
         components: Components { hue: float(4), saturation: float(5), luma: float(6), edges: float(7) },
+        sums: Sums { hue: whole(8), saturation: whole(9), luma: whole(10), edges: whole(11), count: whole(12) },
     }
 }
 
 /// Words for a state, once the library is known to have the functions that `sys` declares, and states and answers of as
 /// many words as here: another one would take other arguments, or write past the words. The numbers of words alone do
-/// not tell; they were the same in 0.1.0.
+/// not tell: they were the same in 0.1.0 and 0.2.0, whose functions differ.
 fn blank<const N: usize>(library: u64) -> [u64; N] {
     let (major, minor, _) = version();
     assert_eq!((major, minor), (VERSION.0, VERSION.1), "the linked library has another version than this wrapper");

@@ -42,7 +42,7 @@ withAnswer c a parts = byCall (λ u w h p ts m. joinedPart a parts) ((a ∷ []) 
 
 not-clear : (d : Detector) (u w h : ℕ) (p : Planes) (ts : Timestamp) (m : Memory) (a : MaybeTimestamp) (xs : List (Answered MaybeTimestamp))
     → windowParts ((frameView d u w h p ts m brought a) ∷ xs) ≡ joinedPart a (windowParts xs)
-not-clear d u w h p ts m a xs = by-zero (eqb (frameNumber (badState d) u w h m) 0) (after d u w h p ts m .«last_score»)
+not-clear d u w h p ts m a xs = by-zero (eqb (frameNumber (badState d) u w h m) 0) (after d u w h p ts m .stream .«last_score»)
   where
     by-zero : (b : Bool) (x : MaybeScore) → windowParts ((cond b (scoredIf x ts) refused brought a) ∷ xs) ≡ joinedPart a (windowParts xs)
     by-zero true noScore = refl

@@ -6,12 +6,12 @@ use lib.Dec.{eqb}
 use Rattle.timestamp.specs.declared.Timestamp.{Timestamp}
 use Rattle.score.specs.declared.MaybeScore.{MaybeScore}
 use Rattle.score.specs.declared.MaybeScore.the-variants.{None as noScore, Some as someScore}
-use Rattle.stream.specs.declared.Stream.{Stream}
 use Rattle.scoring.specs.Planes.{Planes}
 use Rattle.window.specs.declared.WindowStep.{WindowStep}
 use Rattle.window.specs.Calls.{WindowCall, refused, unscored, scored, clear as clearCall, turn}
-use Rattle.frame_call.specs.Call.{Memory, Call, luma, bgr, hsv, clear, byCall, frameNumber, pictured, answeredBy}
-use Rattle.frame_call.proofs.Runs.{streamAfter, if-accepted, if-refused}
+use Rattle.frame_call.specs.declared.Picture.{Picture}
+use Rattle.frame_call.specs.Call.{Memory, Call, luma, bgr, hsv, clear, byCall, frameNumber, accepted, pictured, answeredBy}
+use Rattle.frame_call.proofs.Runs.{if-accepted, if-refused}
 use Rattle.adaptive.specs.declared.Options.{Options}
 use Rattle.adaptive.specs.declared.Detector.{Detector}
 use Rattle.adaptive.specs.declared.Answer.{Answer}
@@ -30,19 +30,20 @@ scoredIf noScore ts = unscored
 scoredIf (someScore x) ts = scored ts x
 
 module _ (d : Detector) (u w h : ℕ) (p : Planes) (ts : Timestamp) (m : Memory) where
-  abbrev pub after : Stream
-  after = streamAfter (d .stream) (pictureOptions (d .options)) w h p (m .store)
+  -- what the frame brings when it is accepted
+  abbrev pub after : Picture
+  after = accepted (d .stream) (pictureOptions (d .options)) w h p (m .store) .answer
 
   abbrev pub frameView : WindowCall
-  frameView = cond (eqb (frameNumber (badState d) u w h m) 0) (scoredIf (after .«last_score») ts) refused
+  frameView = cond (eqb (frameNumber (badState d) u w h m) 0) (scoredIf (after .stream .«last_score») ts) refused
 
   step-acts : (x : MaybeScore) → turn (windowOptions (d .options)) (d .window) (scoredIf x ts) ≡ windowStep (d .options) (d .window) ts x
   step-acts noScore = refl
   step-acts (someScore x) = refl
 
-  accepted-acts : turn (windowOptions (d .options)) (d .window) (scoredIf (after .«last_score») ts) ≡ turned (stepped d ts after)
+  accepted-acts : turn (windowOptions (d .options)) (d .window) (scoredIf (after .stream .«last_score») ts) ≡ turned (stepped d ts after)
   unfolding stepped
-  accepted-acts = step-acts (after .«last_score»)
+  accepted-acts = step-acts (after .stream .«last_score»)
 
   frame-acts : turn (windowOptions (d .options)) (d .window) frameView
       ≡ turned (answeredBy (stepped d ts) (refusedAnswer d) (pictured (d .stream) (pictureOptions (d .options)) (badState d) u w h p m .answer))

@@ -11,6 +11,7 @@ use Rattle.adaptive.specs.declared.Answer.{Answer}
 use Rattle.adaptive.specs.Options.{pictureOptions}
 use Rattle.adaptive.specs.State.{badState, refusedAnswer, clearedAnswer}
 use Rattle.adaptive.specs.Step.{stepped, called}
+use Rattle.adaptive.proofs.Recomputed.{recomputed}
 use Rattle.scoring.specs.Planes.{Planes}
 use Rattle.frame_call.specs.declared.Picture.{Picture}
 use Rattle.frame_call.specs.Call.{pictured, answeredBy}
@@ -58,19 +59,20 @@ module _ (s a : List ℕ) (c : Call) (m m′ : Memory) (x : Answer) (made : Call
   number-of : x .number ≡ called (adaptiveOf s) c .answer .number
   number-of = ap (λ (y : Answer). y .number) (made .answered)
 
-  pub told-refused : 0 < x .number → FrameContract adaptiveLayout (adaptiveCall (adaptiveOf s) c) (x .number) s s a a m m′
-  told-refused some =
+  pub told-refused : (x .number ≡ 0 → ⊥) → FrameContract adaptiveLayout (adaptiveCall (adaptiveOf s) c) (x .number) s s a a m m′
+  told-refused not-zero =
+      let some : 0 < x .number = omega (arith, not-zero) in
       frame-refused adaptiveLayout (adaptiveCall (adaptiveOf s) c) s a m m′ (made .stored) (made .scratch-length) (made .magnitudes-length) (λ h. made .refused (omega (arith, number-of)))
       (x .number) number-of some (sym (refused-keeps (adaptiveOf s) c (omega (arith, number-of))))
 
   pub told-done : x .number ≡ 0 → (s′ a′ : List ℕ) → (s′ ≡ adaptiveWords (x .detector)) × (adaptiveOf s′ ≡ x .detector)
-      → (a′ ≡ answerWords (x .cut) (x .score) (x .components)) × ReadAs (x .cut) (x .score) (x .components) a′
+      → (a′ ≡ answerWords (x .cut) (x .score) (x .components) (x .sums)) × ReadAs (x .cut) (x .score) (x .components) (x .sums) a′
       → FrameContract adaptiveLayout (adaptiveCall (adaptiveOf s) c) (x .number) s s′ a a′ m m′
   told-done z s′ a′ es ea =
       let st = rw (made .answered) at es in
       let an = rw (made .answered) at ea in
       frame-done adaptiveLayout (adaptiveCall (adaptiveOf s) c) s a m m′ (made .stored) (made .scratch-length) (made .magnitudes-length) (λ h. made .refused (omega (arith, number-of)))
-      (x .number) number-of z s′ a′ (st .0) (st .1) (an .0) (an .1)
+      (x .number) number-of z s′ a′ (st .0) (st .1) (an .0) (an .1) (recomputed (adaptiveOf s) c)
 
 module _ (s : List ℕ) (x : Answer) (e : x ≡ clearedAnswer (adaptiveOf s)) where
   pub cleared-refused : 0 < x .number → ClearContract adaptiveLayout (adaptiveCall (adaptiveOf s) clear) (x .number) s s

@@ -8,9 +8,9 @@ use Rattle.adaptive.specs.Step.{called}
 use Rattle.adaptive_words.specs.Record.{adaptiveWords, adaptiveOf}
 use Rattle.station_answer.specs.Contracts.{Layout, Brought, Started}
 
--- the record of the adaptive detector in words
+-- the record of the adaptive detector in words, and its weights
 abbrev pub adaptiveLayout : Layout Detector
-adaptiveLayout = record { wordsOf = adaptiveWords; heldBy = adaptiveOf }
+adaptiveLayout = record { wordsOf = adaptiveWords; heldBy = adaptiveOf; weightsOf = λ (d : Detector). d .options .weights }
 
 -- the result of a call, by the outcome that the detector's definition gives
 abbrev pub broughtBy : Outcome Answer → Brought Detector
@@ -21,6 +21,7 @@ broughtBy o =
       cut = o .answer .cut;
       score = o .answer .score;
       components = o .answer .components;
+      sums = o .answer .sums;
       store = o .store;
     }
 

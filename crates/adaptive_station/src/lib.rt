@@ -1,4 +1,4 @@
-// The adaptive detector's calls on lent words. Its state is 288 words, as the crate `adaptive_words` lays them out, its answer eight; what is
+// The adaptive detector's calls on lent words. Its state is 288 words, as the crate `adaptive_words` lays them out, its answer 13; what is
 // not a record is refused by 15.
 ghost use mathlib.Core.Path.{_≡_};
 ghost use Rattle.score.specs.Scores.{components as components·of};
@@ -19,22 +19,23 @@ use score::Components;
 use timestamp::Timestamp;
 
 // Writes the result of an accepted frame call: the new state and the answer.
-fn write_done(state: &mut [u64; 288], answer: &mut [u64; 8], a: Answer)
+fn write_done(state: &mut [u64; 288], answer: &mut [u64; 13], a: Answer)
     ensures { λ _. ⌜ (now (state .exit) ≡ adaptiveWords (a .detector)) × (adaptiveOf (now (state .exit)) ≡ a .detector) ⌝ }
-    ensures { λ _. ⌜ (now (answer .exit) ≡ answerWords (a .cut) (a .score) (a .components)) × ReadAs (a .cut) (a .score) (a .components) (now (answer .exit)) ⌝ }
+    ensures { λ _. ⌜ (now (answer .exit) ≡ answerWords (a .cut) (a .score) (a .components) (a .sums)) × ReadAs (a .cut) (a .score) (a .components) (a .sums) (now (answer .exit)) ⌝ }
 {
     let d = a.detector;
     let cut = a.cut;
     let score = a.score;
     let deltas = a.components;
+    let sums = a.sums;
     adaptive_words::write(state, d);
-    station_answer::write_answer(answer, cut, score, deltas);
+    station_answer::write_answer(answer, cut, score, deltas, sums);
 }
 
 // A luma frame.
 pub fn process_luma(
     state: &mut [u64; 288],
-    answer: &mut [u64; 8],
+    answer: &mut [u64; 13],
     plane: &[u8],
     width: u32,
     height: u32,
@@ -69,7 +70,7 @@ pub fn process_luma(
 // A BGR frame.
 pub fn process_bgr(
     state: &mut [u64; 288],
-    answer: &mut [u64; 8],
+    answer: &mut [u64; 13],
     pixels: &[u8],
     width: u32,
     height: u32,
@@ -104,7 +105,7 @@ pub fn process_bgr(
 // An HSV frame.
 pub fn process_hsv(
     state: &mut [u64; 288],
-    answer: &mut [u64; 8],
+    answer: &mut [u64; 13],
     hue: &[u8],
     saturation: &[u8],
     value: &[u8],

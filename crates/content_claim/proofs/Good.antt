@@ -42,8 +42,8 @@ module _ (o : Options) (ok : optionsRefusal o ≡ 0) where
   laws =
       record {
         not-bad = not-bad;
-        step-number = λ d ts s. refl;
-        step-stays = λ d ts s e g. record { options = g .options; sides = e; filter = filter-stays d ts (s .«last_score») (g .filter) };
+        step-number = λ d ts p. refl;
+        step-stays = λ d ts p e g. record { options = g .options; sides = e; filter = filter-stays d ts (p .stream .«last_score») (g .filter) };
         refused-number = λ d n. refl;
         refused-state = λ d n. refl;
         clear-number = λ d g. ap (λ (a : Answer). a .number) (clear-is d g);

@@ -11,8 +11,8 @@ use Rattle.stream.specs.Stream.{componentsOf, isScored, nextStream}
 use Rattle.scoring.specs.Planes.{Planes}
 use Rattle.filter.specs.declared.FilterStep.{FilterStep}
 use Rattle.filter.specs.Calls.{Frame, refused, frame, State, Turn, filtered, turnTo, turn}
-use Rattle.frame_call.specs.Call.{Memory, Call, luma, bgr, hsv, clear, frameNumber, sumsOf, pictured, answeredBy}
-use Rattle.frame_call.proofs.Runs.{streamAfter, if-accepted, if-refused}
+use Rattle.frame_call.specs.Call.{Memory, Call, luma, bgr, hsv, clear, frameNumber, sumsOf, accepted, pictured, answeredBy}
+use Rattle.frame_call.proofs.Runs.{if-accepted, if-refused}
 use Rattle.content.specs.declared.Options.{Options}
 use Rattle.content.specs.declared.Detector.{Detector}
 use Rattle.content.specs.declared.Answer.{Answer}
@@ -44,8 +44,8 @@ module _ (d : Detector) (u w h : ℕ) (p : Planes) (ts : Timestamp) (m : Memory)
   filtered-is false = refl
 
   accepted-acts : turn (filterOptions (d .options)) (kept d) (frame w h seenFrame)
-      ≡ turned (stepped d ts (streamAfter (d .stream) (pictureOptions (d .options)) w h p (m .store)))
-  unfolding stepped nextStream isScored
+      ≡ turned (stepped d ts (accepted (d .stream) (pictureOptions (d .options)) w h p (m .store) .answer))
+  unfolding stepped accepted nextStream isScored
   accepted-acts = ap (λ (s : FilterStep). turnTo w h s) (filtered-is (isScored (d .stream) w h))
 
   frame-acts : badState d ≡ false

@@ -14,6 +14,7 @@ use Rattle.content.specs.declared.Settled.{Settled}
 use Rattle.content.specs.Options.{defaults, pictureOptions, optionsRefusal}
 use Rattle.content.specs.State.{fresh, badState, settled, refusedAnswer, clearedAnswer}
 use Rattle.content.specs.Step.{stepped, called}
+use Rattle.content.proofs.Recomputed.{recomputed}
 use Rattle.scoring.specs.Planes.{Planes}
 use Rattle.frame_call.specs.declared.Picture.{Picture}
 use Rattle.frame_call.specs.Call.{pictured, answeredBy}
@@ -61,19 +62,20 @@ module _ (s a : List ℕ) (c : Call) (m m′ : Memory) (x : Answer) (made : Call
   number-of : x .number ≡ called (contentOf s) c .answer .number
   number-of = ap (λ (y : Answer). y .number) (made .answered)
 
-  pub told-refused : 0 < x .number → FrameContract contentLayout (contentCall (contentOf s) c) (x .number) s s a a m m′
-  told-refused some =
+  pub told-refused : (x .number ≡ 0 → ⊥) → FrameContract contentLayout (contentCall (contentOf s) c) (x .number) s s a a m m′
+  told-refused not-zero =
+      let some : 0 < x .number = omega (arith, not-zero) in
       frame-refused contentLayout (contentCall (contentOf s) c) s a m m′ (made .stored) (made .scratch-length) (made .magnitudes-length) (λ h. made .refused (omega (arith, number-of)))
       (x .number) number-of some (sym (refused-keeps (contentOf s) c (omega (arith, number-of))))
 
   pub told-done : x .number ≡ 0 → (s′ a′ : List ℕ) → (s′ ≡ contentWords (x .detector)) × (contentOf s′ ≡ x .detector)
-      → (a′ ≡ answerWords (x .cut) (x .score) (x .components)) × ReadAs (x .cut) (x .score) (x .components) a′
+      → (a′ ≡ answerWords (x .cut) (x .score) (x .components) (x .sums)) × ReadAs (x .cut) (x .score) (x .components) (x .sums) a′
       → FrameContract contentLayout (contentCall (contentOf s) c) (x .number) s s′ a a′ m m′
   told-done z s′ a′ es ea =
       let st = rw (made .answered) at es in
       let an = rw (made .answered) at ea in
       frame-done contentLayout (contentCall (contentOf s) c) s a m m′ (made .stored) (made .scratch-length) (made .magnitudes-length) (λ h. made .refused (omega (arith, number-of)))
-      (x .number) number-of z s′ a′ (st .0) (st .1) (an .0) (an .1)
+      (x .number) number-of z s′ a′ (st .0) (st .1) (an .0) (an .1) (recomputed (contentOf s) c)
 
 module _ (s : List ℕ) (x : Answer) (e : x ≡ clearedAnswer (contentOf s)) where
   pub cleared-refused : 0 < x .number → ClearContract contentLayout (contentCall (contentOf s) clear) (x .number) s s

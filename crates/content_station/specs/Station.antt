@@ -16,9 +16,9 @@ use Rattle.content_words.specs.Record.{contentWords, contentOf}
 use Rattle.station_answer.specs.Settings.{noMode}
 use Rattle.station_answer.specs.Contracts.{Layout, Brought, Started}
 
--- the record of the content detector in words
+-- the record of the content detector in words, and its weights
 abbrev pub contentLayout : Layout Detector
-contentLayout = record { wordsOf = contentWords; heldBy = contentOf }
+contentLayout = record { wordsOf = contentWords; heldBy = contentOf; weightsOf = λ (d : Detector). d .options .weights }
 
 -- the result of a call, by the outcome that the detector's definition gives
 abbrev pub broughtBy : Outcome Answer → Brought Detector
@@ -29,6 +29,7 @@ broughtBy o =
       cut = o .answer .cut;
       score = o .answer .score;
       components = o .answer .components;
+      sums = o .answer .sums;
       store = o .store;
     }
 

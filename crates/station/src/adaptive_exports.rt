@@ -16,7 +16,7 @@ ghost use Rattle.adaptive_station.specs.Station.{adaptiveLayout, adaptiveCall, 
 #[no_mangle]
 pub extern "C" fn mw_adaptive_luma(
     state: &mut [u64; 288],
-    answer: &mut [u64; 8],
+    answer: &mut [u64; 13],
     plane: &[u8],
     width: u32,
     height: u32,
@@ -46,7 +46,7 @@ pub extern "C" fn mw_adaptive_luma(
 #[no_mangle]
 pub extern "C" fn mw_adaptive_bgr(
     state: &mut [u64; 288],
-    answer: &mut [u64; 8],
+    answer: &mut [u64; 13],
     pixels: &[u8],
     width: u32,
     height: u32,
@@ -76,7 +76,7 @@ pub extern "C" fn mw_adaptive_bgr(
 #[no_mangle]
 pub extern "C" fn mw_adaptive_hsv(
     state: &mut [u64; 288],
-    answer: &mut [u64; 8],
+    answer: &mut [u64; 13],
     hue: &[u8],
     saturation: &[u8],
     value: &[u8],

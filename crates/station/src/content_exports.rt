@@ -16,7 +16,7 @@ ghost use Rattle.content_station.specs.Station.{contentLayout, contentCall, sta
 #[no_mangle]
 pub extern "C" fn mw_content_luma(
     state: &mut [u64; 27],
-    answer: &mut [u64; 8],
+    answer: &mut [u64; 13],
     plane: &[u8],
     width: u32,
     height: u32,
@@ -46,7 +46,7 @@ pub extern "C" fn mw_content_luma(
 #[no_mangle]
 pub extern "C" fn mw_content_bgr(
     state: &mut [u64; 27],
-    answer: &mut [u64; 8],
+    answer: &mut [u64; 13],
     pixels: &[u8],
     width: u32,
     height: u32,
@@ -76,7 +76,7 @@ pub extern "C" fn mw_content_bgr(
 #[no_mangle]
 pub extern "C" fn mw_content_hsv(
     state: &mut [u64; 27],
-    answer: &mut [u64; 8],
+    answer: &mut [u64; 13],
     hue: &[u8],
     saturation: &[u8],
     value: &[u8],

@@ -8,6 +8,7 @@ ghost use lib.ListN.{length};
 ghost use Rattle.timestamp.specs.declared.MaybeTimestamp.{MaybeTimestamp};
 ghost use Rattle.score.specs.declared.Components.{Components};
 ghost use Rattle.score.specs.declared.MaybeScore.{MaybeScore};
+ghost use Rattle.stream.specs.declared.Sums.{Sums};
 ghost use Rattle.content.specs.declared.Detector.{Detector};
 ghost use Rattle.adaptive.specs.declared.Detector.{Detector as AdaptiveDetector};
 ghost use Rattle.content_words.specs.Record.{contentWords};
@@ -21,9 +22,9 @@ pub mod content_exports;
 // The library's version: the major number times 65,536, the minor times 256, the patch.
 #[no_mangle]
 pub extern "C" fn mw_version() -> u32
-    ensures { λ r. ⌜ r ≡ 0x000200 ⌝ }
+    ensures { λ r. ⌜ r ≡ 0x000300 ⌝ }
 {
-    0x000200
+    0x000300
 }
 
 // How many words a content state has.
@@ -45,9 +46,9 @@ pub extern "C" fn mw_adaptive_words() -> u64
 // How many words an answer has.
 #[no_mangle]
 pub extern "C" fn mw_answer_words() -> u64
-    ensures { λ r. ⌜ ((cut : MaybeTimestamp) (score : MaybeScore) (deltas : Components) → r ≡ length (answerWords cut score deltas)) ⌝ }
+    ensures { λ r. ⌜ ((cut : MaybeTimestamp) (score : MaybeScore) (deltas : Components) (sums : Sums) → r ≡ length (answerWords cut score deltas sums)) ⌝ }
 {
-    8
+    13
 }
 
 // How many bytes the store of a frame of this size has; 0 for a size that every call refuses by 1.

@@ -5,6 +5,7 @@ use Prim.Native.Nat.{ℕ, _<_}
 use native.Mathlib.Omega.{arith}
 use borrow.Author.Tests.{eq-eqb, ne-eqb}
 use lib.ListN.{length}
+use Rattle.stream.specs.Stream.{FromSums}
 use Rattle.frame_call.specs.Call.{Memory}
 use Rattle.station_answer.specs.Answer.{answerWords, ReadAs, after}
 use Rattle.station_answer.specs.Contracts.{Layout, Brought, FrameContract, ClearContract}
@@ -24,8 +25,9 @@ module _ {D : Type 0} (l : Layout D) (b : Brought D) (s a : List ℕ) (m m′ : 
         number = e;
         state = kept r (l .wordsOf (b .detector)) s some;
         read-back = held;
-        answer = kept r (answerWords (b .cut) (b .score) (b .components)) a some;
+        answer = kept r (answerWords (b .cut) (b .score) (b .components) (b .sums)) a some;
         answer-back = λ z. absurd (omega arith);
+        recomputed = λ z. absurd (omega arith);
         store = stored;
         scratch-length = scratch;
         magnitudes-length = magnitudes;
@@ -33,14 +35,16 @@ module _ {D : Type 0} (l : Layout D) (b : Brought D) (s a : List ℕ) (m m′ : 
       }
 
   pub frame-done : (r : ℕ) → r ≡ b .number → r ≡ 0 → (s′ a′ : List ℕ) → s′ ≡ l .wordsOf (b .detector) → l .heldBy s′ ≡ b .detector
-      → a′ ≡ answerWords (b .cut) (b .score) (b .components) → ReadAs (b .cut) (b .score) (b .components) a′ → FrameContract l b r s s′ a a′ m m′
-  frame-done r e z s′ a′ es er ea ar =
+      → a′ ≡ answerWords (b .cut) (b .score) (b .components) (b .sums) → ReadAs (b .cut) (b .score) (b .components) (b .sums) a′
+      → FromSums (l .weightsOf (l .heldBy s)) (b .score) (b .components) (b .sums) → FrameContract l b r s s′ a a′ m m′
+  frame-done r e z s′ a′ es er ea ar from =
       record {
         number = e;
         state = rw (eq-eqb r 0 z) es;
         read-back = er;
         answer = rw (eq-eqb r 0 z) ea;
         answer-back = λ _. ar;
+        recomputed = λ _. rw (ar .the-score, ar .the-components, ar .the-sums) from;
         store = stored;
         scratch-length = scratch;
         magnitudes-length = magnitudes;

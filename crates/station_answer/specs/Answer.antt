@@ -2,7 +2,7 @@
 use mathlib.Core.Path.{_≡_}
 use mathlib.Core.Bool.{cond}
 use mathlib.Core.List.{List, [], _∷_}
-use Prim.Native.Nat.{ℕ}
+use Prim.Native.Nat.{ℕ, _%_}
 use lib.Dec.{eqb}
 use lib.Ieee.{Float, binary64, toBits}
 use lib.IntN.{ℤ}
@@ -12,6 +12,7 @@ use Rattle.timestamp.specs.declared.MaybeTimestamp.{MaybeTimestamp}
 use Rattle.score.specs.declared.Components.{Components}
 use Rattle.score.specs.declared.MaybeScore.{MaybeScore}
 use Rattle.score.specs.declared.MaybeScore.the-variants.{None, Some}
+use Rattle.stream.specs.declared.Sums.{Sums}
 use Rattle.words.specs.Choices.{stampTag, stampWord, stampOf, scoreTag, scoreWord, scoreOf, componentsOf}
 use Rattle.words.specs.Stream.{wordAt}
 
@@ -19,9 +20,10 @@ use Rattle.words.specs.Stream.{wordAt}
 abbrev pub stamp : ℤ → Timestamp
 stamp z = record { micros = z }
 
--- eight words: whether there is a cut, its stamp or 0, whether there is a score, its bits or 0, and the bits of the four components
-unfoldable pub answerWords : MaybeTimestamp → MaybeScore → Components → List ℕ
-answerWords cut score c =
+-- thirteen words: whether there is a cut, its stamp or 0, whether there is a score, its bits or 0, the bits of the four components, and the five
+-- whole numbers that these come from: the sums of hue, saturation, luma and edges, and the count (RULES 4.4)
+unfoldable pub answerWords : MaybeTimestamp → MaybeScore → Components → Sums → List ℕ
+answerWords cut score c sums =
     stampTag cut ∷
     stampWord cut ∷
     scoreTag score ∷
@@ -30,6 +32,11 @@ answerWords cut score c =
     toBits binary64 (c .«delta_sat») ∷
     toBits binary64 (c .«delta_lum») ∷
     toBits binary64 (c .«delta_edges») ∷
+    sums .hue ∷
+    sums .saturation ∷
+    sums .luma ∷
+    sums .edges ∷
+    sums .count ∷
     []
 
 -- the cut that the words of an answer are read as, or none
@@ -44,11 +51,23 @@ scoreIn a = scoreOf (wordAt a 2) (wordAt a 3)
 abbrev pub componentsIn : List ℕ → Components
 componentsIn a = componentsOf (wordAt a 4) (wordAt a 5) (wordAt a 6) (wordAt a 7)
 
--- words that read back as this cut, this score and these components
-pub record ReadAs (cut : MaybeTimestamp) (score : MaybeScore) (deltas : Components) (a : List ℕ) : Type 0 where
+-- the four sums and the count that the words of an answer are read as, each by its low 32 bits
+abbrev pub sumsIn : List ℕ → Sums
+sumsIn a =
+    record {
+      hue = wordAt a 8 % 4294967296;
+      saturation = wordAt a 9 % 4294967296;
+      luma = wordAt a 10 % 4294967296;
+      edges = wordAt a 11 % 4294967296;
+      count = wordAt a 12 % 4294967296;
+    }
+
+-- words that read back as this cut, this score, these components and these sums
+pub record ReadAs (cut : MaybeTimestamp) (score : MaybeScore) (deltas : Components) (sums : Sums) (a : List ℕ) : Type 0 where
   pub the-cut : cutIn a ≡ cut
   pub the-score : scoreIn a ≡ score
   pub the-components : componentsIn a ≡ deltas
+  pub the-sums : sumsIn a ≡ sums
 
 -- the new where the number is 0, otherwise the old: a refused call leaves everything as it was
 abbrev pub after : {A : Type 0} → ℕ → A → A → A

@@ -7,22 +7,26 @@ use lib.ListN.{length}
 use Rattle.timestamp.specs.declared.MaybeTimestamp.{MaybeTimestamp}
 use Rattle.score.specs.declared.Components.{Components}
 use Rattle.score.specs.declared.MaybeScore.{MaybeScore}
+use Rattle.stream.specs.declared.Sums.{Sums}
+use Rattle.stream.specs.Stream.{FromSums}
 use Rattle.frame_call.specs.Call.{Memory}
-use Rattle.station_answer.specs.Answer.{answerWords, ReadAs, after}
+use Rattle.station_answer.specs.Answer.{answerWords, ReadAs, scoreIn, componentsIn, sumsIn, after}
 
--- a detector's record `D` in words: the words of a record, and the record that words hold
+-- a detector's record `D` in words: the words of a record, the record that words hold, and the weights of a record
 pub record Layout (D : Type 0) : Type 0 where
   pub wordsOf : D → List ℕ
   pub heldBy : List ℕ → D
+  pub weightsOf : D → Components
 
 -- the result of a call by its definition: the refusal's number or 0, the detector after it (refused: as it was), the cut or none, the score
--- or none, the components, and the store after it (refused: as it was)
+-- or none, the components, the sums with the count, and the store after it (refused: as it was)
 pub record Brought (D : Type 0) : Type 0 where
   pub number : ℕ
   pub detector : D
   pub cut : MaybeTimestamp
   pub score : MaybeScore
   pub components : Components
+  pub sums : Sums
   pub store : List ℕ
 
 -- a frame call
@@ -34,9 +38,11 @@ pub record FrameContract {D : Type 0} (l : Layout D) (b : Brought D) (r : ℕ) (
   -- accepted or refused, the words hold the detector that the definition gives
   pub read-back : l .heldBy s′ ≡ b .detector
   -- an accepted call writes the words of the answer, and a refused one leaves them as they were
-  pub answer : a′ ≡ after r (answerWords (b .cut) (b .score) (b .components)) a
-  -- the answer of an accepted call is read as the cut, the score and the components that the definition gives
-  pub answer-back : r ≡ 0 → ReadAs (b .cut) (b .score) (b .components) a′
+  pub answer : a′ ≡ after r (answerWords (b .cut) (b .score) (b .components) (b .sums)) a
+  -- the answer of an accepted call is read as the cut, the score, the components and the sums that the definition gives
+  pub answer-back : r ≡ 0 → ReadAs (b .cut) (b .score) (b .components) (b .sums) a′
+  -- from its five whole numbers and the state's weights a station works out the components and the score of an accepted call again (RULES 6.8)
+  pub recomputed : r ≡ 0 → FromSums (l .weightsOf (l .heldBy s)) (scoreIn a′) (componentsIn a′) (sumsIn a′)
   -- the store is the one that the definition gives
   pub store : m′ .store ≡ b .store
   -- the contents of the scratch and the magnitudes after an accepted call are left open: only their lengths are promised

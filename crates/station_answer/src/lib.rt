@@ -11,6 +11,7 @@ use score::Components;
 use score::KernelSize;
 use score::MaybeComponents;
 use score::MaybeScore;
+use stream::Sums;
 use timestamp::MaybeTimestamp;
 
 // The larger of two numbers.
@@ -55,9 +56,9 @@ pub fn magnitudes_count(width: u32, height: u32) -> u64
     width as u64 * height as u64
 }
 
-// The eight words of an answer.
-fn answer_words(cut: MaybeTimestamp, score: MaybeScore, deltas: Components) -> [u64; 8]
-    ensures { λ r. ⌜ (r ≡ answerWords cut score deltas) × ReadAs cut score deltas r ⌝ }
+// The thirteen words of an answer.
+fn answer_words(cut: MaybeTimestamp, score: MaybeScore, deltas: Components, sums: Sums) -> [u64; 13]
+    ensures { λ r. ⌜ (r ≡ answerWords cut score deltas sums) × ReadAs cut score deltas sums r ⌝ }
 {
     let w0 = words::stamp_tag(cut);
     let w1 = words::stamp_word(cut);
@@ -67,14 +68,25 @@ fn answer_words(cut: MaybeTimestamp, score: MaybeScore, deltas: Components) -> [
     let w5 = words::float_word(deltas.delta_sat);
     let w6 = words::float_word(deltas.delta_lum);
     let w7 = words::float_word(deltas.delta_edges);
-    [w0, w1, w2, w3, w4, w5, w6, w7]
+    let w8 = sums.hue as u64;
+    let w9 = sums.saturation as u64;
+    let w10 = sums.luma as u64;
+    let w11 = sums.edges as u64;
+    let w12 = sums.count as u64;
+    [w0, w1, w2, w3, w4, w5, w6, w7, w8, w9, w10, w11, w12]
 }
 
 // Writes an answer, which reads back.
-pub fn write_answer(out: &mut [u64; 8], cut: MaybeTimestamp, score: MaybeScore, deltas: Components)
-    ensures { λ _. ⌜ (now (out .exit) ≡ answerWords cut score deltas) × ReadAs cut score deltas (now (out .exit)) ⌝ }
+pub fn write_answer(
+    out: &mut [u64; 13],
+    cut: MaybeTimestamp,
+    score: MaybeScore,
+    deltas: Components,
+    sums: Sums,
+)
+    ensures { λ _. ⌜ (now (out .exit) ≡ answerWords cut score deltas sums) × ReadAs cut score deltas sums (now (out .exit)) ⌝ }
 {
-    let w = answer_words(cut, score, deltas);
+    let w = answer_words(cut, score, deltas, sums);
     words::copy(out, &w);
 }
 

@@ -75,7 +75,7 @@ module _ {D : Type 0} (l : Layout D) (calls : D → Call → Brought D)
         call = c;
         number = 0;
         state = l .wordsOf (b .detector);
-        answer = cond (isFrame c) (answerWords (b .cut) (b .score) (b .components)) [];
+        answer = cond (isFrame c) (answerWords (b .cut) (b .score) (b .components) (b .sums)) [];
         store = cond (isFrame c) (b .store) [];
       }
 

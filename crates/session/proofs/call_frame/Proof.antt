@@ -35,7 +35,7 @@ returns c =
     let magnitudes : length (s .args .magnitudes .now) ≡ 1024 = search needs in
     let f = s .args .f in
     let same = lent (s .args .s .detector) (take (f .width * f .height) (s .args .luma .now)) (f .width) (f .height) (f .width) (f .stamp) (s .args .store .now) (s .args .scratch .now) (s .args .magnitudes .now) scratch magnitudes in
-    (c .process-luma .ensures .answered ∙ ap (λ (o : Outcome Answer). o .answer) same, c .process-luma .ensures .stored ∙ ap (λ (o : Outcome Answer). o .store) same)
+    (c .process-luma .ensures .0 .answered ∙ ap (λ (o : Outcome Answer). o .answer) same, c .process-luma .ensures .0 .stored ∙ ap (λ (o : Outcome Answer). o .store) same)
 
 pub call-frame-spec : {M : Type 1} → statement M
 call-frame-spec =
