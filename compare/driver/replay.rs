@@ -226,7 +226,8 @@ fn batches<D: Listed>(count: fn(usize) -> usize) -> String {
         let mut digest = Digest::new();
         for c in 0..256 {
             let (bytes, _, scored) = lists::run::<D>(&generator.shades((count(c) + 1) * lists::RECORD, 0));
-            assert!(scored.iter().all(|frame| frame.sums.means() == frame.components()));
+            // the comparison has a row for this; where outputs are only written there is none
+            assert!(cfg!(rattle) || scored.iter().all(|frame| frame.sums.means() == frame.components()));
             digest.bytes(&bytes[..bytes.len().min(ROOM)]);
         }
         writeln!(out, "lists {batch} {}", digest.value()).unwrap();

@@ -6,8 +6,8 @@ use scenesdetect::content::reach::Held;
 /// The sums of the absolute differences of hue, saturation, luma and edges, and the number of pixels.
 #[derive(Clone, Copy, Debug, Default, PartialEq)]
 pub struct Sums {
-    pub planes: [u32; 4],
-    pub count: u32,
+    planes: [u32; 4],
+    count: u32,
 }
 
 impl Sums {
@@ -42,7 +42,7 @@ impl Sums {
 }
 
 /// The whole sum of the absolute differences of two planes.
-pub fn sum(a: &[u8], b: &[u8]) -> u32 {
+fn sum(a: &[u8], b: &[u8]) -> u32 {
     assert_eq!(a.len(), b.len());
     a.iter().zip(b).map(|(&x, &y)| x.abs_diff(y) as u32).sum()
 }
