@@ -35,7 +35,8 @@ fn sizes() -> Row {
         constant("version of the wrapper", version(), one(mawerodu::VERSION));
         constant("words of a content state", CONTENT_WORDS as u64, c::mw_content_words());
         constant("words of an adaptive state", ADAPTIVE_WORDS as u64, c::mw_adaptive_words());
-        constant("words of an answer", ANSWER_WORDS as u64, c::mw_answer_words());
+        constant("words of an answer", rules::ANSWER as u64, c::mw_answer_words());
+        constant("words of an answer by the wrapper", rules::ANSWER as u64, ANSWER_WORDS as u64);
     }
     let sides = || (0..=40).chain([640, 1080, 1920, 4095, 4096, 4097, 65536, 1 << 31, u32::MAX]);
     for width in sides() {
@@ -177,8 +178,8 @@ fn adaptive_settings(row: &mut Row) {
 }
 
 /// One frame call on a fresh state, or on words that are refused. A refused call leaves state, answer and memory as they
-/// were; an accepted one, being the first, has no score and no cut, and writes neither past what it is lent nor, in the
-/// store, past 4n.
+/// were; an accepted one, being the first, has no score, no cut and no sums, which is an answer of zeros, and writes
+/// neither past what it is lent nor, in the store, past 4n.
 fn called<const N: usize>(
     row: &mut Row,
     input: impl Fn() -> String,
@@ -192,7 +193,7 @@ fn called<const N: usize>(
     let found = given.call(functions, frame, lent);
     let planes = rules::memory(frame.width, frame.height)[0].min(lent[0] as u64) as usize;
     let kept = match found {
-        0 => given.behind_kept(station, [planes, lent[1], lent[2]]) && given.answer()[0] == 0 && given.answer()[2] == 0,
+        0 => given.behind_kept(station, [planes, lent[1], lent[2]]) && given.answer() == [0; rules::ANSWER],
         _ => given == *station,
     };
     let size = frame.width as u64 + frame.height as u64 + frame.stride as u64;

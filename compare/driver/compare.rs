@@ -1,6 +1,7 @@
 //! Both sides on the same inputs.
 use crate::generator::{Generator, Random};
 use crate::lists::{self, Listed};
+use crate::sums::Scored;
 use crate::table::Row;
 use crate::{rattle, rust, station};
 use core::time::Duration;
@@ -17,8 +18,7 @@ pub fn rows(which: Lists) -> Vec<Row> {
         bgr_to_hsv_planes(),
         BGR_TO_HSV.wide("bgr_to_hsv_planes, wide rows"),
         copy_plane(),
-        sums(),
-        means(),
+        differences(),
         sobel_gradients(),
         sobel_planes(),
         luma_and_bgr_frames(),
@@ -174,20 +174,12 @@ fn pair(a: &[u8], b: &[u8]) -> String {
     format!("{a:?} and {b:?}")
 }
 
-fn sums() -> Row {
-    let mut row = Row::new("sum_abs_diff");
+fn differences() -> Row {
+    let mut row = Row::new("mean_abs_diff: sum, count and bits");
     each_pair(|a, b| {
-        let sum = rust::sum_of(rust::mean_abs_diff(a, b), a.len());
-        row.compare(a.len() as u64, || pair(a, b), sum, rattle::sum_abs_diff(a, b));
-    });
-    row
-}
-
-fn means() -> Row {
-    let mut row = Row::new("mean_abs_diff, bits");
-    each_pair(|a, b| {
-        let bits = rust::mean_abs_diff(a, b).to_bits();
-        row.compare(a.len() as u64, || pair(a, b), bits, rattle::mean_abs_diff(a, b).to_bits());
+        let mean = rust::mean_abs_diff(a, b);
+        let expected = [rust::sum_of(mean, a.len()) as u64, a.len() as u64, mean.to_bits()];
+        row.compare(a.len() as u64, || pair(a, b), expected, rattle::mean_abs_diff(a, b));
     });
     row
 }
@@ -408,19 +400,19 @@ fn written(list: for<'a> fn(&[u8], &'a mut [u8]) -> &'a [u8]) -> impl FnMut(&[u8
 }
 
 /// Whole lists of calls: all that each call gives. Of a list that differs the calls behind the first that shows it
-/// are left out. Each list's detector is shown at its end.
+/// are left out. Each list's detector is shown at its end, with the frames that were scored.
 fn whole_lists<D: Listed>(
     row: &mut Row,
     seed: u64,
     counts: impl Iterator<Item = u64>,
     mut rattle: impl FnMut(&[u8]) -> Vec<u8>,
-    mut seen: impl FnMut(&D),
+    mut seen: impl FnMut(&[u8], &D, &[Scored]),
 ) {
     let mut random = Random(seed);
     for count in counts {
         let mut script: Vec<u8> = (0..=count).flat_map(|_| record(&mut random)).collect();
-        let (mut expected, detector) = lists::run::<D>(&script);
-        seen(&detector);
+        let (mut expected, detector, scored) = lists::run::<D>(&script);
+        seen(&script, &detector, &scored);
         let mut found = rattle(&script);
         if expected != found {
             script = shortest::<D>(&script, &mut rattle);
@@ -439,32 +431,47 @@ fn shortest<D: Listed>(script: &[u8], rattle: &mut impl FnMut(&[u8]) -> Vec<u8>)
     differing.next().expect("the whole list differs").to_vec()
 }
 
+/// The components that the Rust gives of each scored frame of a list, beside the sums over the count.
+fn over_count(row: &mut Row, script: &[u8], scored: &[Scored]) {
+    for (i, frame) in scored.iter().enumerate() {
+        let input = || format!("records of 16 bytes {script:?}, scored frame {i}, sums {:?}", frame.sums);
+        row.compare(script.len() as u64, input, frame.components(), frame.sums.means());
+    }
+}
+
+const OVER_COUNT: &str = "sum over count, by the Rust's components";
+
 /// Lists of 1 to 24 calls, on the records and through the station library.
-fn content_lists(which: Lists) -> [Row; 2] {
+fn content_lists(which: Lists) -> [Row; 3] {
     let counts = (0..which.content).map(|list| list % 24 + 1);
     println!("{} lists of content calls, {} calls", which.content, counts.clone().sum::<u64>());
     let mut records = Row::new("whole lists of content calls");
     let mut words = Row::new("the same through the station library");
+    let mut means = Row::of_sums(OVER_COUNT);
     let seed = which.seed;
-    whole_lists::<content::Detector>(&mut records, seed, counts.clone(), written(rattle::content_list), |_| ());
-    whole_lists::<content::Detector>(&mut words, seed, counts, station::content_list, |_| ());
-    [records, words]
+    let seen = |script: &[u8], _: &content::Detector, scored: &[Scored]| over_count(&mut means, script, scored);
+    whole_lists(&mut records, seed, counts.clone(), written(rattle::content_list), seen);
+    whole_lists::<content::Detector>(&mut words, seed, counts, station::content_list, |_, _, _| ());
+    [records, words, means]
 }
 
 /// Calls of a long list of adaptive calls, in which wide windows fill: one list in sixteen is one.
 pub const LONG: u64 = 240;
 
-fn adaptive_lists(which: Lists) -> [Row; 2] {
+fn adaptive_lists(which: Lists) -> [Row; 3] {
     let counts = (0..which.adaptive).map(|list| if list % 16 == 15 { LONG } else { list % 24 + 1 });
     println!("{} lists of adaptive calls, {} calls", which.adaptive, counts.clone().sum::<u64>());
     let mut records = Row::new("whole lists of adaptive calls");
     let mut words = Row::new("the same through the station library");
+    let mut means = Row::of_sums(OVER_COUNT);
     let seed = which.seed;
     let mut full = [0; 65];
-    whole_lists(&mut records, seed, counts.clone(), written(rattle::adaptive_list), |detector: &adaptive::Detector| {
+    let seen = |script: &[u8], detector: &adaptive::Detector, scored: &[Scored]| {
         full[detector.options().window_width() as usize] += detector.last_adaptive_ratio().is_some() as u64;
-    });
+        over_count(&mut means, script, scored);
+    };
+    whole_lists(&mut records, seed, counts.clone(), written(rattle::adaptive_list), seen);
     println!("lists with a full window at their end, by its width from 1 to 64: {:?}", &full[1..]);
-    whole_lists::<adaptive::Detector>(&mut words, seed, counts, station::adaptive_list, |_| ());
-    [records, words]
+    whole_lists::<adaptive::Detector>(&mut words, seed, counts, station::adaptive_list, |_, _, _| ());
+    [records, words, means]
 }

@@ -3,6 +3,7 @@
 //! by number.
 use crate::generator::Generator;
 use crate::rust;
+use crate::sums::{Scored, Sums};
 use core::time::Duration;
 use mediatime::Timestamp;
 use scenesdetect::content::{self, Components, DEFAULT_WEIGHTS, LUMA_ONLY_WEIGHTS, reach};
@@ -89,6 +90,11 @@ impl Output {
         for x in [c.delta_hue(), c.delta_sat(), c.delta_lum(), c.delta_edges()] {
             self.double(x);
         }
+    }
+
+    /// The four sums and the count.
+    fn sums(&mut self, sums: Sums) {
+        sums.numbers().into_iter().for_each(|number| self.word(number));
     }
 }
 
@@ -262,12 +268,14 @@ pub fn is_bad(r: &[u8]) -> bool {
     r[13] % 32 == 1
 }
 
-/// A list while it runs: the detector, the film, the store as it is to be, and the results of the calls.
+/// A list while it runs: the detector, the film, the store as it is to be, the results of the calls, and the frames that
+/// were scored.
 struct Run<D> {
     detector: D,
     film: Film,
     store: Vec<u8>,
     out: Output,
+    scored: Vec<Scored>,
 }
 
 impl<D: Listed> Run<D> {
@@ -276,7 +284,7 @@ impl<D: Listed> Run<D> {
         let (number, detector) = D::settled(r);
         let mut out = Output::default();
         out.word(number);
-        Run { detector, film: Film::new(r), store: vec![0; STORE], out }
+        Run { detector, film: Film::new(r), store: vec![0; STORE], out, scored: Vec::new() }
     }
 
     fn call(&mut self, r: &[u8]) {
@@ -285,10 +293,10 @@ impl<D: Listed> Run<D> {
         if !D::is_clear(r) {
             self.frame_call(r, bad);
         } else if bad {
-            self.answer(15, None, false);
+            self.answer(15, None, None);
         } else {
             self.detector.clear();
-            self.answer(0, None, false);
+            self.answer(0, None, None);
         }
     }
 
@@ -309,29 +317,34 @@ impl<D: Listed> Run<D> {
             memory_refusal(&f)
         };
         if number != 0 {
-            return self.answer(number, None, false);
+            return self.answer(number, None, None);
         }
         let ts = Timestamp::from_micros(self.film.stamp());
         let detector = &mut self.detector;
+        let before = reach::held(detector.scorer());
         let cut = match r[0] % 32 {
             0..=10 => detector.luma(LumaFrame::try_new(a, w, h, stride, ts).unwrap()),
             11..=20 => detector.bgr(RgbFrame::try_new(a, w, h, stride, ts).unwrap()),
             _ => detector.hsv(HsvFrame::try_new(a, b, c, w, h, stride, ts).unwrap()),
         };
-        reach::store_into(detector.scorer(), &mut self.store);
-        self.answer(0, cut, true);
+        let scorer = detector.scorer();
+        reach::store_into(scorer, &mut self.store);
+        let sums = Sums::of(before.as_ref(), &reach::held(scorer).expect("the planes of this frame"));
+        self.scored.extend(scorer.last_components().map(|components| Scored { sums, components }));
+        self.answer(0, cut, Some(sums));
     }
 
-    /// The result of a call: the number; the cut; score and components, which only an accepted frame has; what the
+    /// The result of a call: the number; the cut; score, components and sums, which only an accepted frame has; what the
     /// readers show; the store.
-    fn answer(&mut self, number: u32, cut: Option<Timestamp>, accepted: bool) {
+    fn answer(&mut self, number: u32, cut: Option<Timestamp>, accepted: Option<Sums>) {
         let (out, scorer) = (&mut self.out, self.detector.scorer());
         let (score, components) = (scorer.last_score(), scorer.last_components());
         let zeros = Components::new(0.0, 0.0, 0.0, 0.0);
         out.word(number);
         out.stamp(cut);
-        out.score(score.filter(|_| accepted));
-        out.components(components.filter(|_| accepted).unwrap_or(zeros));
+        out.score(score.filter(|_| accepted.is_some()));
+        out.components(components.filter(|_| accepted.is_some()).unwrap_or(zeros));
+        out.sums(accepted.unwrap_or_default());
         out.score(score);
         out.0.push(components.is_some() as u8);
         if let Some(c) = components {
@@ -343,12 +356,12 @@ impl<D: Listed> Run<D> {
     }
 }
 
-/// The results of a list, and the detector after it.
-pub fn run<D: Listed>(script: &[u8]) -> (Vec<u8>, D) {
+/// The results of a list, the detector after it, and the frames that were scored.
+pub fn run<D: Listed>(script: &[u8]) -> (Vec<u8>, D, Vec<Scored>) {
     let mut records = script.chunks_exact(RECORD);
     let mut run = Run::new(records.next().expect("a record of settings"));
     for record in records {
         run.call(record);
     }
-    (run.out.0, run.detector)
+    (run.out.0, run.detector, run.scored)
 }

@@ -32,6 +32,7 @@ mod sessions;
 #[cfg(rattle)]
 mod station;
 mod stored_input;
+mod sums;
 mod table;
 #[cfg(rattle)]
 mod time;

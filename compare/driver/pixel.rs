@@ -2,7 +2,7 @@
 //! state and answer after it, and the store. For states that the Rust can't be handed; it follows docs/RULES.md and the
 //! two functions of the Rust that are named there, `filter_merge` and `push_and_check`, and is not made from the proved
 //! code.
-use crate::rules::{Layout, Own, Settings};
+use crate::rules::{self, Layout, Own, Settings};
 
 /// An optional value, as two words.
 fn option(words: &[u64], place: usize) -> Option<u64> {
@@ -40,11 +40,13 @@ pub fn luma(layout: &Layout, words: &[u64], luma: u8, stamp: i64, store: [u8; 4]
     // settings and size are written as they are, with the stream and what comes after it as at the start
     let mut state = settings.fresh(1, 1);
     state[stream] = 1;
-    let mut answer = vec![0; 8];
+    let mut answer = vec![0; rules::ANSWER];
     // a side below 3: the edge plane is 0; with edges off it is not touched
     let edges = if we == 0.0 { store[3] } else { 0 };
     let after = [0, 0, luma, edges];
-    let deltas: [f64; 4] = [0, 1, 2, 3].map(|i| after[i].abs_diff(store[i]) as f64);
+    let sums = [0, 1, 2, 3].map(|i| after[i].abs_diff(store[i]));
+    // the count is 1, so a mean is its sum
+    let deltas = sums.map(f64::from);
     let sum = wh.abs() + ws.abs() + wl.abs() + we.abs();
     let score = (deltas[0] * wh + deltas[1] * ws + deltas[2] * wl + deltas[3] * we) / sum;
     if scored {
@@ -54,7 +56,9 @@ pub fn luma(layout: &Layout, words: &[u64], luma: u8, stamp: i64, store: [u8; 4]
         for i in 0..4 {
             state[stream + 4 + i] = deltas[i].to_bits();
             answer[4 + i] = deltas[i].to_bits();
+            answer[8 + i] = sums[i] as u64;
         }
+        answer[12] = 1;
     }
     let scored = scored.then_some(score);
     let cut = match settings.own {

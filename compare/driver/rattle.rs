@@ -21,8 +21,7 @@ mod c {
             height: u32,
             stride: u32,
         ) -> u32;
-        pub fn mw_sum_abs_diff(a: *const u8, a_len: usize, b: *const u8, b_len: usize) -> u32;
-        pub fn mw_mean_abs_diff(a: *const u8, a_len: usize, b: *const u8, b_len: usize) -> f64;
+        pub fn mw_mean_abs_diff(out: *mut [u64; 3], a: *const u8, a_len: usize, b: *const u8, b_len: usize);
         pub fn mw_sobel(
             mag: *mut i32,
             mag_len: usize,
@@ -91,12 +90,11 @@ pub fn copy_plane(out: &mut [u8], src: &[u8], width: u32, height: u32, stride: u
     unsafe { c::mw_copy_plane(out.as_mut_ptr(), out.len(), src.as_ptr(), src.len(), width, height, stride) }
 }
 
-pub fn sum_abs_diff(a: &[u8], b: &[u8]) -> u32 {
-    unsafe { c::mw_sum_abs_diff(a.as_ptr(), a.len(), b.as_ptr(), b.len()) }
-}
-
-pub fn mean_abs_diff(a: &[u8], b: &[u8]) -> f64 {
-    unsafe { c::mw_mean_abs_diff(a.as_ptr(), a.len(), b.as_ptr(), b.len()) }
+/// The sum, the count, and the bits of the mean.
+pub fn mean_abs_diff(a: &[u8], b: &[u8]) -> [u64; 3] {
+    let mut out = [u64::MAX; 3];
+    unsafe { c::mw_mean_abs_diff(&mut out, a.as_ptr(), a.len(), b.as_ptr(), b.len()) };
+    out
 }
 
 pub fn sobel(mag: &mut [i32], dir: &mut [u8], input: &[u8], width: u32, height: u32) -> u32 {

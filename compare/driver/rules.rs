@@ -189,6 +189,9 @@ impl Layout {
     }
 }
 
+/// The words of an answer: has, stamp of the cut; has, score; four components; four sums; the count (RULES 4.4).
+pub const ANSWER: usize = 13;
+
 /// The word of a NaN (RULES 15.2).
 pub const NAN: u64 = 0x7ff8_0000_0000_0000;
 

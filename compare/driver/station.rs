@@ -311,7 +311,8 @@ impl<const N: usize> Station<N> {
 
     /// The result of a call, as the lists of the other side write it.
     fn show(&self, functions: &Functions<N>, number: u32, accepted: bool, out: &mut Output) {
-        let [cut, ts, score, bits, deltas @ ..] = self.answer() else { panic!("an answer has eight words") };
+        let [cut, ts, score, bits, numbers @ ..] = self.answer() else { panic!("an answer has 13 words") };
+        let (deltas, sums) = numbers.split_at(4);
         let maybe = |out: &mut Output, tag: u64, word: u64| {
             out.0.push(tag as u8);
             (tag != 0).then(|| out.long(word));
@@ -320,6 +321,13 @@ impl<const N: usize> Station<N> {
         maybe(out, *cut * accepted as u64, ts.wrapping_add(1 << 63));
         maybe(out, *score * accepted as u64, *bits);
         deltas.iter().for_each(|&word| out.long(if accepted { word } else { 0 }));
+        for &word in sums {
+            // a word that 32 bits do not hold is put out whole, as no list has it
+            match u32::try_from(if accepted { word } else { 0 }) {
+                Ok(number) => out.word(number),
+                Err(_) => out.long(word),
+            }
+        }
         let shown = self.read(functions);
         maybe(out, shown[0].0 as u64, shown[0].1.to_bits());
         let has = self.has_components(functions);

@@ -3,8 +3,9 @@ use std::fmt::Debug;
 
 pub struct Row {
     name: &'static str,
-    /// What the proved side is held against.
+    /// What the proved side is held against, and what is held against it.
     beside: &'static str,
+    held: &'static str,
     compared: u64,
     differ: u64,
     smallest: Option<(u64, String)>,
@@ -12,7 +13,7 @@ pub struct Row {
 
 impl Row {
     pub fn new(name: &'static str) -> Self {
-        Self { name, beside: "the Rust", compared: 0, differ: 0, smallest: None }
+        Self { name, beside: "the Rust", held: "Rattle", compared: 0, differ: 0, smallest: None }
     }
 
     /// A row of what the Rust has no counterpart for.
@@ -21,20 +22,26 @@ impl Row {
         Self { beside: "the rules", ..Self::new(name) }
     }
 
+    /// A row of the sums that are worked out from the Rust's planes, beside what the Rust itself gives.
+    #[cfg(rattle)]
+    pub fn of_sums(name: &'static str) -> Self {
+        Self { held: "by the sums", ..Self::new(name) }
+    }
+
     #[cfg(rattle)]
     pub fn differ(&self) -> u64 {
         self.differ
     }
 
     /// Counts one comparison. Of the inputs that show a difference it keeps the one of least size.
-    pub fn compare<T: PartialEq + Debug>(&mut self, size: u64, input: impl Fn() -> String, expected: T, rattle: T) {
+    pub fn compare<T: PartialEq + Debug>(&mut self, size: u64, input: impl Fn() -> String, expected: T, found: T) {
         self.compared += 1;
-        if expected == rattle {
+        if expected == found {
             return;
         }
         self.differ += 1;
         if self.smallest.as_ref().is_none_or(|(least, _)| size < *least) {
-            self.smallest = Some((size, format!("{}: {} {expected:?}, Rattle {rattle:?}", input(), self.beside)));
+            self.smallest = Some((size, format!("{}: {} {expected:?}, {} {found:?}", input(), self.beside, self.held)));
         }
     }
 }

@@ -4,10 +4,12 @@ use crate::compare::{self, Lists};
 use crate::generator::Random;
 use crate::lists::{self, Film, Listed};
 use crate::station::{Planes, frame_of};
+use crate::sums::Sums;
 use crate::table::Row;
 use crate::{adaptive_lists, content_lists, rust};
 use mawerodu::{AdaptiveDetector, AdaptiveOptions, Answer, ContentDetector, ContentOptions, FilterMode, Refusal};
 use mediatime::Timestamp;
+use scenesdetect::content::reach;
 use scenesdetect::frame::{HsvFrame, LumaFrame, RgbFrame};
 use scenesdetect::{adaptive, content};
 
@@ -137,11 +139,15 @@ impl Wrapped for AdaptiveDetector {
     }
 }
 
-/// The result of a frame: the number, or the cut, and score and components as the answer has them.
-type Brought = Result<(Option<i64>, Option<Vec<u64>>, Vec<u64>), u32>;
+fn five(s: mawerodu::Sums) -> [u32; 5] {
+    [s.hue, s.saturation, s.luma, s.edges, s.count]
+}
+
+/// The result of a frame: the number, or the cut, and score, components and sums as the answer has them.
+type Brought = Result<(Option<i64>, Option<Vec<u64>>, Vec<u64>, [u32; 5]), u32>;
 
 fn brought(result: Result<Answer, Refusal>) -> Brought {
-    result.map(|a| (a.cut, one(a.score), four(a.components))).map_err(|refusal| refusal.0)
+    result.map(|a| (a.cut, one(a.score), four(a.components), five(a.sums))).map_err(|refusal| refusal.0)
 }
 
 /// The same of the oracle. The added rows 12 to 15 can't occur.
@@ -156,13 +162,16 @@ fn oracle_brought<D: Listed>(oracle: &mut D, planes: Planes, size: (u32, u32, u3
         return Err(number);
     }
     let ts = Timestamp::from_micros(ts);
+    let before = reach::held(oracle.scorer());
     let cut = match planes {
         Planes::Luma(a) => oracle.luma(LumaFrame::try_new(a, w, h, stride, ts).unwrap()),
         Planes::Bgr(a) => oracle.bgr(RgbFrame::try_new(a, w, h, stride, ts).unwrap()),
         Planes::Hsv([a, b, c]) => oracle.hsv(HsvFrame::try_new(a, b, c, w, h, stride, ts).unwrap()),
     };
-    let components = oracle.scorer().last_components().map_or(vec![0; 4], oracle_four);
-    Ok((cut.map(|ts| ts.micros()), one(oracle.scorer().last_score()), components))
+    let scorer = oracle.scorer();
+    let components = scorer.last_components().map_or(vec![0; 4], oracle_four);
+    let sums = Sums::of(before.as_ref(), &reach::held(scorer).expect("the planes of this frame"));
+    Ok((cut.map(|ts| ts.micros()), one(scorer.last_score()), components, sums.numbers()))
 }
 
 fn list<W: Wrapped>(row: &mut Row, script: &[u8]) {

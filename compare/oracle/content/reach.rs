@@ -51,6 +51,27 @@ pub fn store_into(detector: &super::Detector, store: &mut [u8]) {
     }
 }
 
+/// The planes that the next frame of this size is held against: those of the last accepted frame of the stretch, with
+/// the frame's size. With edges off there is no edge plane.
+pub struct Held {
+    pub size: (u32, u32),
+    pub hue: Vec<u8>,
+    pub saturation: Vec<u8>,
+    pub value: Vec<u8>,
+    pub edges: Option<Vec<u8>>,
+}
+
+/// None before the first frame of a stretch.
+pub fn held(detector: &super::Detector) -> Option<Held> {
+    detector.has_previous.then(|| Held {
+        size: size(detector),
+        hue: detector.prev_h.clone(),
+        saturation: detector.prev_s.clone(),
+        value: detector.prev_v.clone(),
+        edges: detector.edges_enabled.then(|| detector.prev_edges.clone()),
+    })
+}
+
 /// Width and height of the last accepted frame.
 pub fn size(detector: &super::Detector) -> (u32, u32) {
     (detector.width, detector.height)

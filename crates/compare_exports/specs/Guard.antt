@@ -4,6 +4,8 @@ use mathlib.Core.List.{List, [], _∷_}
 use Prim.Native.Nat.{ℕ, _+_, _*_, _^_}
 use lib.Dec.{eqb, leb}
 use lib.ListN.{length}
+use lib.Ieee.{binary64, toBits}
+use Rattle.arch_planes.specs.Difference.{meanAbsDiff}
 use Rattle.timestamp.specs.declared.Since.{Since}
 use Rattle.timestamp.specs.declared.Since.the-variants.{Earlier, Micros}
 use Rattle.frame.specs.Refusal.{firstThat}
@@ -19,6 +21,12 @@ after n new old = cond (eqb n 0) new old
 -- two planes of one length, of a frame's size at most
 abbrev pub comparable : List ℕ → List ℕ → Bool
 comparable s t = eqb (length s) (length t) && leb (length s) (2 ^ 24)
+
+-- the difference of two planes: the whole sum, the count and the bits of the mean; three zeros where they are not comparable
+abbrev pub differenceOf : List ℕ → List ℕ → List ℕ
+differenceOf s t =
+    let found = meanAbsDiff s t in
+    cond (comparable s t) (found .sum ∷ found .count ∷ toBits binary64 (found .mean) ∷ []) (0 ∷ 0 ∷ 0 ∷ [])
 
 -- three numbers of 8 bits as one of 24
 abbrev pub packed24 : ℕ → ℕ → ℕ → ℕ

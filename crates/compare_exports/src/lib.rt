@@ -1,22 +1,20 @@
 // The leaves, callable from other languages: compare/ holds them against the Rust. A slice passes as a pointer and then a length.
 // Nothing is asked of a caller: what a leaf requires is tested here, and a call that fails the test writes nothing.
 ghost use mathlib.Core.Path.{_≡_};
-ghost use mathlib.Core.Bool.{cond, _&&_};
+ghost use mathlib.Core.Bool.{_&&_};
 ghost use Prim.Native.Nat.{_*_, _<_};
 ghost use lib.Dec.{eqb};
 ghost use lib.ListN.{length};
 ghost use Rattle.frame.specs.Checks.{lumaRefusal, bgrRefusal, hsvRefusal};
 ghost use Rattle.arch_hsv.specs.Hsv.{hue, saturation, value, hsvPlanes};
 ghost use Rattle.arch_planes.specs.Packed.{packed};
-ghost use Rattle.laws.specs.Floats.{float};
-ghost use Rattle.arch_planes.specs.Difference.{sumAbsDiff, meanAbsDiff};
 ghost use Rattle.arch_sobel.specs.Sobel.{sobelMag, sobelDir};
 ghost use Rattle.canny_marks.specs.Median.{medianOf};
 ghost use Rattle.canny_marks.specs.Marks.{lowMark, highMark};
 ghost use Rattle.canny_marks.specs.Kernel.{autoKernelSize};
 ghost use Rattle.canny.specs.Edges.{edgePlane};
 ghost use Rattle.timestamp.specs.Stamps.{durationSince, saturatingSub};
-ghost use Rattle.compare_exports.specs.Guard.{number, after, comparable, packed24, microsOf, earlierOf};
+ghost use Rattle.compare_exports.specs.Guard.{number, after, differenceOf, packed24, microsOf, earlierOf};
 ghost use Rattle.compare_lists.specs.Wrote.{Wrote};
 use timestamp::Since;
 use timestamp::Timestamp;
@@ -111,30 +109,27 @@ pub extern "C" fn mw_bgr_to_hsv_planes(
     12
 }
 
-// The sum of the absolute differences of two planes of one length, of 2^24 bytes at most; 0 of others.
-#[no_mangle]
-pub extern "C" fn mw_sum_abs_diff(a: &[u8], b: &[u8]) -> u32
-    ensures { λ r. ⌜ r ≡ cond (comparable (now (a .entry)) (now (b .entry))) (sumAbsDiff (now (a .entry)) (now (b .entry))) 0 ⌝ }
+// The difference of two planes of one length, of 2^24 bytes at most, as three words; three zeros for others.
+fn difference(a: &[u8], b: &[u8]) -> [u64; 3]
+    ensures { λ r. ⌜ r ≡ differenceOf (now (a .entry)) (now (b .entry)) ⌝ }
 {
     if a.len() == b.len() {
         if a.len() <= 16777216 {
-            return arch_planes::sum_abs_diff(a, b);
+            let found = arch_planes::mean_abs_diff(a, b);
+            let bits = replay::pattern(found.mean);
+            return [found.sum as u64, found.count as u64, bits];
         }
     }
-    0
+    [0, 0, 0]
 }
 
-// Their mean; 0.0 of others.
+// Writes the whole sum, the count and the bits of the mean.
 #[no_mangle]
-pub extern "C" fn mw_mean_abs_diff(a: &[u8], b: &[u8]) -> f64
-    ensures { λ r. ⌜ r ≡ cond (comparable (now (a .entry)) (now (b .entry))) (meanAbsDiff (now (a .entry)) (now (b .entry))) (float 0) ⌝ }
+pub extern "C" fn mw_mean_abs_diff(out: &mut [u64; 3], a: &[u8], b: &[u8])
+    ensures { λ _. ⌜ now (out .exit) ≡ differenceOf (now (a .entry)) (now (b .entry)) ⌝ }
 {
-    if a.len() == b.len() {
-        if a.len() <= 16777216 {
-            return arch_planes::mean_abs_diff(a, b);
-        }
-    }
-    0.0
+    let w = difference(a, b);
+    words::copy(out, &w);
 }
 
 // Sobel's magnitude and direction planes of a packed luma plane, all three of width * height places.

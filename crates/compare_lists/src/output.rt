@@ -4,6 +4,7 @@ use crate::memory;
 use score::Components;
 use score::MaybeComponents;
 use score::MaybeScore;
+use stream::Sums;
 use timestamp::MaybeTimestamp;
 use timestamp::Since;
 use timestamp::Timestamp;
@@ -50,6 +51,17 @@ fn put_components(out: &mut [u8], at: usize, c: Components) -> usize
     let saturation = put_double(out, hue, c.delta_sat);
     let luma = put_double(out, saturation, c.delta_lum);
     put_double(out, luma, c.delta_edges)
+}
+
+// The four sums and the count, 32 bits each.
+fn put_sums(out: &mut [u8], at: usize, s: Sums) -> usize
+    ensures { λ r. ⌜ Wrote (now (out .entry)) (now (out .exit)) at r ⌝ }
+{
+    let hue = put_word(out, at, s.hue);
+    let saturation = put_word(out, hue, s.saturation);
+    let luma = put_word(out, saturation, s.luma);
+    let edges = put_word(out, luma, s.edges);
+    put_word(out, edges, s.count)
 }
 
 // How far a stamp is past -2^63.
@@ -133,13 +145,15 @@ pub fn put_answer(
     cut: MaybeTimestamp,
     score: MaybeScore,
     components: Components,
+    sums: Sums,
 ) -> usize
     ensures { λ r. ⌜ Wrote (now (out .entry)) (now (out .exit)) start r ⌝ }
 {
     let a = put_word(out, start, number);
     let b = put_cut(out, a, cut);
     let c = put_score(out, b, score);
-    put_components(out, c, components)
+    let e = put_components(out, c, components);
+    put_sums(out, e, sums)
 }
 
 // What the readers of both detectors show.

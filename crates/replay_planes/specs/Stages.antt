@@ -4,7 +4,8 @@ use Prim.Native.Nat.{ℕ, _+_, _-_, _*_}
 use lib.Ieee.{binary64, toBits}
 use Rattle.arch_hsv.specs.Hsv.{hsvPlanes}
 use Rattle.arch_planes.specs.Packed.{packed}
-use Rattle.arch_planes.specs.Difference.{sumAbsDiff, meanAbsDiff}
+use Rattle.arch_planes.specs.declared.PlaneDifference.{PlaneDifference}
+use Rattle.arch_planes.specs.Difference.{meanAbsDiff}
 use Rattle.arch_sobel.specs.Sobel.{sobelMag, sobelDir}
 use Rattle.frame.specs.Checks.{lumaRefusal, bgrRefusal, hsvRefusal}
 use Rattle.replay.specs.declared.Digest.{Digest}
@@ -22,16 +23,17 @@ unfoldable pub converted : Run → ℕ → ℕ → ℕ → ℕ → ℕ → Run
 converted run need w h stride kind =
     record { x = after need (run .x); digest = fed (run .digest) (hsvPlanes (shades need (run .x) kind) w h stride) }
 
--- the sum and the mean of the differences of two planes
-unfoldable pub fedDifference : Digest → List ℕ → List ℕ → Digest
-fedDifference d a b = fed (fed d (leastFirst 4 (sumAbsDiff a b))) (leastFirst 8 (toBits binary64 (meanAbsDiff a b)))
+-- the difference of two planes: its sum and its count, 32 bits each, then the bits of its mean
+unfoldable pub fedDifference : Digest → PlaneDifference → Digest
+fedDifference d found =
+    fed (fed (fed d (leastFirst 4 (found .sum))) (leastFirst 4 (found .count))) (leastFirst 8 (toBits binary64 (found .mean)))
 
 -- `mean_abs_diff`, of n bytes of the kind and n of kind 0
 unfoldable pub differed : Run → ℕ → ℕ → Run
 differed run n kind =
     record {
       x = after n (after n (run .x));
-      digest = fedDifference (run .digest) (shades n (run .x) kind) (shades n (after n (run .x)) 0);
+      digest = fedDifference (run .digest) (meanAbsDiff (shades n (run .x) kind) (shades n (after n (run .x)) 0));
     }
 
 -- `sobel`, of n bytes: the magnitudes, then the directions

@@ -51,7 +51,7 @@ returns-2 c =
     (a .store .now) (a .scratch .now) (replicate (length (a .scratch .now)) 0) (a .magnitudes .now) (replicate (length (a .magnitudes .now)) (pos 0))
     (sym (length-replicate {A = ℕ} (length (a .scratch .now)) 0)) (sym (length-replicate (length (a .magnitudes .now)) (pos 0))) in
     rw (ne-eqb _ _ (s .before .before .if1 .left), ← s .stride .ensures)
-    (p .process-luma .ensures .answered ∙ ap (λ (o : Outcome Answer). o .answer) same, p .process-luma .ensures .stored ∙ ap (λ (o : Outcome Answer). o .store) same)
+    (p .process-luma .ensures .0 .answered ∙ ap (λ (o : Outcome Answer). o .answer) same, p .process-luma .ensures .0 .stored ∙ ap (λ (o : Outcome Answer). o .store) same)
 
 pub answered-spec : {M : Type 1} → statement M
 answered-spec =

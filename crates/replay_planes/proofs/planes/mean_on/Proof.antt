@@ -10,14 +10,14 @@ fill-requires c κs = search needs
 fill-requires-2 : tie.Need-fill-requires-2
 fill-requires-2 c κs = search needs
 
-sum-abs-diff-requires : tie.Need-sum-abs-diff-requires
-sum-abs-diff-requires c κs = search needs
-
 mean-abs-diff-requires : tie.Need-mean-abs-diff-requires
 mean-abs-diff-requires c κs = search needs
 
 word-requires : tie.Need-word-requires
 word-requires c κs = search needs
+
+word-requires-2 : tie.Need-word-requires-2
+word-requires-2 c κs = search needs
 
 double-requires : tie.Need-double-requires
 double-requires c κs = search needs
@@ -38,9 +38,9 @@ mean-on-spec =
     (tie.spec
     fill-requires
     fill-requires-2
-    sum-abs-diff-requires
     mean-abs-diff-requires
     word-requires
+    word-requires-2
     double-requires
     same-length
     same-length-2
