@@ -1,7 +1,6 @@
 // What the calls of both detectors share: the memory that a frame needs, an answer in words, settings by numbers, and what the readers
 // show.
 ghost use mathlib.Core.Path.{_≡_};
-ghost use Prim.Native.Nat.{max};
 ghost use Rattle.words.specs.Choices.{scoreTag, componentsTag};
 ghost use Rattle.stream.specs.Stream.{componentsShown};
 ghost use Rattle.station_answer.specs.Sizes.{storeBytes, scratchBytes, magnitudesCount};
@@ -12,16 +11,6 @@ use score::KernelSize;
 use score::MaybeComponents;
 use score::MaybeScore;
 use timestamp::MaybeTimestamp;
-
-// The larger of two numbers.
-fn larger(a: u64, b: u64) -> u64
-    ensures { λ r. ⌜ r ≡ max a b ⌝ }
-{
-    if a < b {
-        return b;
-    }
-    a
-}
 
 // How many bytes the store of a frame of this size has; 0 for a size that every call refuses by 1.
 pub fn store_bytes(width: u32, height: u32) -> u64
@@ -42,7 +31,7 @@ pub fn scratch_bytes(width: u32, height: u32) -> u64
     }
     let w = width as u64;
     let h = height as u64;
-    7 * (w * h) + 2 * larger(w, h)
+    7 * (w * h) + 2 * choose::larger_u64(w, h)
 }
 
 // How many numbers of 32 bits the magnitudes of a frame of this size are; 0 for a size that every call refuses by 1.
