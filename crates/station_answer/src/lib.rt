@@ -16,7 +16,7 @@ use timestamp::MaybeTimestamp;
 pub fn store_bytes(width: u32, height: u32) -> u64
     ensures { λ r. ⌜ r ≡ storeBytes width height ⌝ }
 {
-    if (4096 < width) | (4096 < height) {
+    if (frame::MOST_SIDE < width) | (frame::MOST_SIDE < height) {
         return 0;
     }
     4 * (width as u64 * height as u64)
@@ -26,7 +26,7 @@ pub fn store_bytes(width: u32, height: u32) -> u64
 pub fn scratch_bytes(width: u32, height: u32) -> u64
     ensures { λ r. ⌜ r ≡ scratchBytes width height ⌝ }
 {
-    if (4096 < width) | (4096 < height) {
+    if (frame::MOST_SIDE < width) | (frame::MOST_SIDE < height) {
         return 0;
     }
     let w = width as u64;
@@ -38,7 +38,7 @@ pub fn scratch_bytes(width: u32, height: u32) -> u64
 pub fn magnitudes_count(width: u32, height: u32) -> u64
     ensures { λ r. ⌜ r ≡ magnitudesCount width height ⌝ }
 {
-    if (4096 < width) | (4096 < height) {
+    if (frame::MOST_SIDE < width) | (frame::MOST_SIDE < height) {
         return 0;
     }
     width as u64 * height as u64
