@@ -4,7 +4,7 @@ ghost use Prim.Native.Nat.{ℕ, _+_, _*_, _<_, _≤_, min};
 ghost use lib.ListN.{length};
 ghost use Rattle.arch_hsv.specs.Hsv.{rounded, value, delta, hsvOf, hsvPlanes};
 ghost use Rattle.arch_hsv.specs.Rows.{ofPixel, rowStored};
-ghost use Rattle.arch_hsv.specs.Blocks.{sixths, Holds, Bounded, partsStored};
+ghost use Rattle.arch_hsv.specs.Blocks.{sixths, FirstAre, Bounded, partsStored};
 ghost use Rattle.arch_hsv.specs.Reciprocals.{Reciprocals};
 
 mod table;
@@ -102,9 +102,9 @@ pub fn bgr_to_hsv_pixel(b: u8, g: u8, r: u8) -> Hsv
 fn measure(row: &[u8], m: usize, v: &mut [u8; 256], d: &mut [u8; 256], k: &mut [u16; 256])
     requires { ⌜ (m ≤ 256) × (length (now row) ≡ 3 * m) ⌝ }
     requires { ⌜ (length (now v) ≡ 256) × ((length (now d) ≡ 256) × (length (now k) ≡ 256)) ⌝ }
-    ensures { λ _. ⌜ Holds (ofPixel value (now (row .entry))) m (now (v .exit)) ⌝ }
-    ensures { λ _. ⌜ Holds (ofPixel delta (now (row .entry))) m (now (d .exit)) ⌝ }
-    ensures { λ _. ⌜ Holds (ofPixel sixths (now (row .entry))) m (now (k .exit)) ⌝ }
+    ensures { λ _. ⌜ FirstAre (ofPixel value (now (row .entry))) m (now (v .exit)) ⌝ }
+    ensures { λ _. ⌜ FirstAre (ofPixel delta (now (row .entry))) m (now (d .exit)) ⌝ }
+    ensures { λ _. ⌜ FirstAre (ofPixel sixths (now (row .entry))) m (now (k .exit)) ⌝ }
 {
     let mut x = 0;
     while x < m {
