@@ -1,4 +1,4 @@
--- What the adaptive detector answers to an accepted frame, by what the frame brings, and to any call (RULES 9.2, 9.4, 9.11).
+-- What the adaptive detector answers to an accepted frame, by the frame's result, and to any call (RULES 9.2, 9.4, 9.11).
 use Rattle.timestamp.specs.declared.Timestamp.{Timestamp}
 use Rattle.score.specs.declared.MaybeScore.{MaybeScore}
 use Rattle.score.specs.declared.MaybeScore.the-variants.{None as noScore, Some as someScore}

@@ -261,7 +261,7 @@ fn options_refusal(o: Options) -> u32
     if o.window_width == 0 {
         return 10;
     }
-    if 64 < o.window_width {
+    if window::MOST_WINDOW < o.window_width {
         return 11;
     }
     let weights = o.weights;
@@ -310,7 +310,7 @@ pub fn is_bad(d: Detector) -> bool
     let s = d.stream;
     let w = d.window;
     let refused = options_refusal(o) != 0;
-    let large = (4096 < s.width) | (4096 < s.height);
+    let large = (frame::MOST_SIDE < s.width) | (frame::MOST_SIDE < s.height);
     let count = w.count;
     let long = 2 * (o.window_width as usize) + 1 < count;
     refused | large | long
@@ -374,7 +374,7 @@ fn window_step(o: Options, kept: Window, ts: Timestamp, last: MaybeScore) -> Win
     }
 }
 
-// An accepted frame, by what it brings: its sums, and the stream after it, which has its score. An inner layer of the frame calls, and no
+// An accepted frame, by its result: its sums, and the stream after it, which has its score. An inner layer of the frame calls, and no
 // call: it tests nothing.
 pub fn step(d: Detector, ts: Timestamp, p: Picture) -> Answer
     ensures { λ r. ⌜ r ≡ stepped d ts p ⌝ }

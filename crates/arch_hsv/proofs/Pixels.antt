@@ -10,14 +10,14 @@ use Rattle.laws.proofs.Parts.{getD-part}
 use Rattle.laws.proofs.Tab.{Filled}
 use Rattle.arch_hsv.specs.Hsv.{rounded, value, delta}
 use Rattle.arch_hsv.specs.Rows.{ofPixel, rowStored}
-use Rattle.arch_hsv.specs.Blocks.{sixths, Holds, Bounded, partsStored}
+use Rattle.arch_hsv.specs.Blocks.{sixths, FirstAre, Bounded, partsStored}
 use Rattle.arch_hsv.proofs.Reading.{spread}
 use Rattle.arch_hsv.proofs.ByCases.{hue-is, saturation-is, sixths-le}
 
-pub holds : {f : ℕ → ℕ} {m i : ℕ} {l : List ℕ} → Filled 0 f 256 i l → m ≤ i → Holds f m l
-holds F h = record { size = F .len; done = λ x b. F .done x (omega arith) }
+pub first-are : {f : ℕ → ℕ} {m i : ℕ} {l : List ℕ} → Filled 0 f 256 i l → m ≤ i → FirstAre f m l
+first-are F h = record { size = F .len; done = λ x b. F .done x (omega arith) }
 
-pub bounded : (row : List ℕ) {v d k : List ℕ} {m : ℕ} → Holds (ofPixel value row) m v → Holds (ofPixel delta row) m d → Holds (ofPixel sixths row) m k
+pub bounded : (row : List ℕ) {v d k : List ℕ} {m : ℕ} → FirstAre (ofPixel value row) m v → FirstAre (ofPixel delta row) m d → FirstAre (ofPixel sixths row) m k
     → (x : ℕ) → x < m → Bounded v d k x
 bounded row hv hd hk x h =
     let b = getD row (3 * x) 0 in
@@ -36,7 +36,7 @@ unfolding partsStored
 parts-more out v d k l first n x h s e p q = rw (add-one x, e, p, q)
 
 -- by their parts they are what the definition has
-pub parts-row : (out row v d k : List ℕ) (first n m : ℕ) → Holds (ofPixel value row) m v → Holds (ofPixel delta row) m d → Holds (ofPixel sixths row) m k
+pub parts-row : (out row v d k : List ℕ) (first n m : ℕ) → FirstAre (ofPixel value row) m v → FirstAre (ofPixel delta row) m d → FirstAre (ofPixel sixths row) m k
     → (i : ℕ) → i ≤ m → partsStored out v d k first n i ≡ rowStored out row first n i
 unfolding partsStored rowStored
 parts-row out row v d k first n m hv hd hk zero h = refl
@@ -74,7 +74,7 @@ part-same row x m F j h =
 
 -- a row up to pixel x, and then the next m by their parts
 pub block-joined : (out row p l e v d k : List ℕ) (first n x m : ℕ) → p ≡ take (3 * m) (drop (3 * x) row) → l ≡ rowStored out row first n x
-    → Holds (ofPixel value p) m v → Holds (ofPixel delta p) m d → Holds (ofPixel sixths p) m k → e ≡ partsStored l v d k (first + x) n m
+    → FirstAre (ofPixel value p) m v → FirstAre (ofPixel delta p) m d → FirstAre (ofPixel sixths p) m k → e ≡ partsStored l v d k (first + x) n m
     → e ≡ rowStored out row first n (x + m)
 block-joined out row p l e v d k first n x m ep el hv hd hk ee =
     ee

@@ -10,7 +10,7 @@ unfoldable pub sixths : ℕ → ℕ → ℕ → ℕ
 sixths b g r = degrees b g r / 60
 
 -- an array of 256 that has f x at each place x below m
-pub record Holds (f : ℕ → ℕ) (m : ℕ) (l : List ℕ) : Type 0 where
+pub record FirstAre (f : ℕ → ℕ) (m : ℕ) (l : List ℕ) : Type 0 where
   pub size : length l ≡ 256
   pub done : (x : ℕ) → x < m → getD l x 0 ≡ f x
 

@@ -1,11 +1,10 @@
 // BGR bytes to hue, saturation and value, in whole numbers.
 ghost use mathlib.Core.Path.{_≡_};
-ghost use mathlib.Core.Bool.{cond};
-ghost use Prim.Native.Nat.{ℕ, _+_, _*_, _<_, _≤_, min, max};
+ghost use Prim.Native.Nat.{ℕ, _+_, _*_, _<_, _≤_, min};
 ghost use lib.ListN.{length};
 ghost use Rattle.arch_hsv.specs.Hsv.{rounded, value, delta, hsvOf, hsvPlanes};
 ghost use Rattle.arch_hsv.specs.Rows.{ofPixel, rowStored};
-ghost use Rattle.arch_hsv.specs.Blocks.{sixths, Holds, Bounded, partsStored};
+ghost use Rattle.arch_hsv.specs.Blocks.{sixths, FirstAre, Bounded, partsStored};
 ghost use Rattle.arch_hsv.specs.Reciprocals.{Reciprocals};
 
 mod table;
@@ -15,34 +14,6 @@ pub struct Hsv {
     pub h: u8,
     pub s: u8,
     pub v: u8,
-}
-
-fn larger(x: u8, y: u8) -> u8
-    ensures { λ r. ⌜ r ≡ max x y ⌝ }
-{
-    if x < y {
-        return y;
-    }
-    x
-}
-
-fn smaller(x: u8, y: u8) -> u8
-    ensures { λ r. ⌜ r ≡ min x y ⌝ }
-{
-    if x < y {
-        return x;
-    }
-    y
-}
-
-// x where c holds, else y. Both are at hand, so no branch is left: which of them it is changes from pixel to pixel.
-fn pick(c: bool, x: u32, y: u32) -> u32
-    ensures { λ r. ⌜ r ≡ cond c x y ⌝ }
-{
-    if c {
-        return x;
-    }
-    y
 }
 
 fn wide(x: u32) -> u64
@@ -75,10 +46,10 @@ fn sixths(b: u32, g: u32, r: u32, v: u32, d: u32) -> u32
     requires { ⌜ (v ≤ 255) × ((v ≡ value b g r) × (d ≡ delta b g r)) ⌝ }
     ensures { λ k. ⌜ (k ≡ sixths b g r) × (k ≤ 1530) ⌝ }
 {
-    let red = pick(b <= g, 0, 6 * d) + g - b;
+    let red = choose::pick_u32(b <= g, 0, 6 * d) + g - b;
     let green = 2 * d + b - r;
     let blue = 4 * d + r - g;
-    pick(v == r, red, pick(v == g, green, blue))
+    choose::pick_u32(v == r, red, choose::pick_u32(v == g, green, blue))
 }
 
 // Hue above 179 is 179.
@@ -110,8 +81,8 @@ struct Measured {
 fn parts(b: u8, g: u8, r: u8) -> Measured
     ensures { λ p. ⌜ (p .v ≡ value b g r) × ((p .d ≡ delta b g r) × (p .k ≡ sixths b g r)) ⌝ }
 {
-    let v = larger(larger(b, g), r);
-    let d = v - smaller(smaller(b, g), r);
+    let v = choose::larger_u8(choose::larger_u8(b, g), r);
+    let d = v - choose::lesser_u8(choose::lesser_u8(b, g), r);
     let k = sixths(b as u32, g as u32, r as u32, v as u32, d as u32);
     Measured { v, d, k: k as u16 }
 }
@@ -131,9 +102,9 @@ pub fn bgr_to_hsv_pixel(b: u8, g: u8, r: u8) -> Hsv
 fn measure(row: &[u8], m: usize, v: &mut [u8; 256], d: &mut [u8; 256], k: &mut [u16; 256])
     requires { ⌜ (m ≤ 256) × (length (now row) ≡ 3 * m) ⌝ }
     requires { ⌜ (length (now v) ≡ 256) × ((length (now d) ≡ 256) × (length (now k) ≡ 256)) ⌝ }
-    ensures { λ _. ⌜ Holds (ofPixel value (now (row .entry))) m (now (v .exit)) ⌝ }
-    ensures { λ _. ⌜ Holds (ofPixel delta (now (row .entry))) m (now (d .exit)) ⌝ }
-    ensures { λ _. ⌜ Holds (ofPixel sixths (now (row .entry))) m (now (k .exit)) ⌝ }
+    ensures { λ _. ⌜ FirstAre (ofPixel value (now (row .entry))) m (now (v .exit)) ⌝ }
+    ensures { λ _. ⌜ FirstAre (ofPixel delta (now (row .entry))) m (now (d .exit)) ⌝ }
+    ensures { λ _. ⌜ FirstAre (ofPixel sixths (now (row .entry))) m (now (k .exit)) ⌝ }
 {
     let mut x = 0;
     while x < m {
@@ -172,15 +143,6 @@ fn finish(
     }
 }
 
-fn lesser(x: usize, y: usize) -> usize
-    ensures { λ r. ⌜ r ≡ min x y ⌝ }
-{
-    if x < y {
-        return x;
-    }
-    y
-}
-
 // The w pixels of row, stored from place first of the three planes of n bytes, 256 of them at a time.
 fn bgr_to_hsv_row(t: &[u32; 256], out: &mut [u8], row: &[u8], first: usize, n: usize, w: usize)
     requires { ⌜ Reciprocals (now t) ⌝ }
@@ -192,7 +154,7 @@ fn bgr_to_hsv_row(t: &[u32; 256], out: &mut [u8], row: &[u8], first: usize, n: u
     let mut k = [0u16; 256];
     let mut x = 0;
     while x < w {
-        let m = lesser(256, w - x);
+        let m = choose::lesser_usize(256, w - x);
         let p = 3 * x;
         let q = p + 3 * m;
         measure(&row[p..q], m, &mut v, &mut d, &mut k);

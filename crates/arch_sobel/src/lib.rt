@@ -1,8 +1,7 @@
 // The Sobel operator over a plane of bytes, `sobel` of arch.rs.
 ghost use mathlib.Core.Path.{_≡_};
-ghost use mathlib.Core.Bool.{cond};
-ghost use Prim.Native.Nat.{ℕ, _+_, _-_, _*_, _<_, _≤_};
-ghost use lib.IntN.{ℤ, pos, natAbs};
+ghost use Prim.Native.Nat.{_+_, _*_, _<_, _≤_};
+ghost use lib.IntN.{pos, natAbs};
 ghost use lib.ListN.{length};
 ghost use Rattle.laws.specs.Lists.{tabulate};
 ghost use Rattle.arch_sobel.specs.Sobel.{px, smoothCol, smoothRow, gradX, gradY, signOf, dirOf, magAt, dirAt, sobelMag, sobelDir};
@@ -70,16 +69,6 @@ fn sign(g: i32) -> u8
     0
 }
 
-// x where c holds, else y. Both are at hand, so no branch is left: directions change from pixel to pixel.
-fn pick(c: bool, x: u8, y: u8) -> u8
-    ensures { λ r. ⌜ r ≡ cond c x y ⌝ }
-{
-    if c {
-        return x;
-    }
-    y
-}
-
 // The direction of a gradient, by its sizes and then by its signs.
 fn direction(gx: i32, gy: i32) -> u8
     requires { ⌜ (natAbs gx ≤ 1020) × (natAbs gy ≤ 1020) ⌝ }
@@ -87,9 +76,9 @@ fn direction(gx: i32, gy: i32) -> u8
 {
     let ax = size(gx);
     let ay = size(gy);
-    let slant = pick(sign(gx) == sign(gy), 1, 3);
-    let steep = pick(2414 * ax < 1000 * ay, 2, slant);
-    pick(1000 * ay < 414 * ax, 0, steep)
+    let slant = choose::pick_u8(sign(gx) == sign(gy), 1, 3);
+    let steep = choose::pick_u8(2414 * ax < 1000 * ay, 2, slant);
+    choose::pick_u8(1000 * ay < 414 * ax, 0, steep)
 }
 
 // What the two planes have at one place.

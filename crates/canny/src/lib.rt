@@ -1,18 +1,8 @@
 // The edge plane of a luma plane: `compute_edges`.
 ghost use mathlib.Core.Path.{_≡_};
 ghost use Prim.Native.Nat.{_*_, _≤_};
-ghost use lib.ListN.{length, replicate};
+ghost use lib.ListN.{length};
 ghost use Rattle.canny.specs.Edges.{strongPlane, edgePlane};
-
-fn clear(plane: &mut [u8])
-    ensures { λ _. ⌜ now (plane .exit) ≡ replicate (length (now (plane .entry))) 0 ⌝ }
-{
-    let mut i = 0;
-    while i < plane.len() {
-        plane[i] = 0;
-        i += 1;
-    }
-}
 
 // The strong pixels, 255 each. What mag holds afterwards is not promised.
 fn strong_plane(luma: &[u8], mag: &mut [i32], edges: &mut [u8], w: usize, h: usize)
@@ -37,11 +27,11 @@ pub fn edge_plane(luma: &[u8], mag: &mut [i32], edges: &mut [u8], w: usize, h: u
     ensures { λ _. ⌜ length (now (mag .exit)) ≡ length (now (mag .entry)) ⌝ }
 {
     if w < 3 {
-        clear(edges);
+        choose::clear_bytes(edges);
         return;
     }
     if h < 3 {
-        clear(edges);
+        choose::clear_bytes(edges);
         return;
     }
     strong_plane(luma, mag, edges, w, h);

@@ -1,7 +1,7 @@
 // Thinning and classes: from the magnitude and direction planes to the plane of pixels that are weak (1), strong (2) or neither (0).
 ghost use mathlib.Core.Path.{_≡_};
 ghost use mathlib.Core.Bool.{cond};
-ghost use Prim.Native.Nat.{ℕ, _+_, _-_, _*_, _<_, _≤_};
+ghost use Prim.Native.Nat.{_+_, _*_, _<_, _≤_};
 ghost use lib.ListN.{length, getD};
 ghost use Rattle.laws.specs.Lists.{tabulate};
 ghost use Rattle.arch_sobel.specs.Inner.{Inner};
@@ -30,16 +30,6 @@ fn keeps_by(mag: &[i32], i: usize, s: usize) -> bool
     keeps(mag[i], mag[i + s], mag[i - s])
 }
 
-// x where c holds, else y. Both are at hand, so no branch is left: directions change from pixel to pixel.
-fn pick(c: bool, x: bool, y: bool) -> bool
-    ensures { λ r. ⌜ r ≡ cond c x y ⌝ }
-{
-    if c {
-        return x;
-    }
-    y
-}
-
 // Whether the pixel at place i stays along its direction. All four are tried, the neighbours being 1, w + 1, w and w - 1 places on and
 // back, and one is picked: so a loop over places has the same reads at each, and the compiler works several at a time.
 fn keeps_along(mag: &[i32], w: usize, dir: u8, i: usize) -> bool
@@ -50,10 +40,10 @@ fn keeps_along(mag: &[i32], w: usize, dir: u8, i: usize) -> bool
     let fall = keeps_by(mag, i, w + 1);
     let down = keeps_by(mag, i, w);
     let rise = keeps_by(mag, i, w - 1);
-    pick(
+    choose::pick_bool(
         dir == 0,
         across,
-        pick(dir == 1, fall, pick(dir == 2, down, rise)),
+        choose::pick_bool(dir == 1, fall, choose::pick_bool(dir == 2, down, rise)),
     )
 }
 
@@ -92,32 +82,21 @@ fn inner_row(mag: &[i32], row: &mut [u8], w: usize, h: usize, low: u8, high: u8,
     row[x] = 0;
 }
 
-// A row at the border.
-fn border_row(row: &mut [u8])
-    ensures { λ _. ⌜ now (row .exit) ≡ tabulate (length (now (row .entry))) (λ _. 0) ⌝ }
-{
-    let mut x = 0;
-    while x < row.len() {
-        row[x] = 0;
-        x += 1;
-    }
-}
-
-// Row y.
+// Row y; 0 throughout at the border.
 fn class_row(mag: &[i32], row: &mut [u8], w: usize, h: usize, low: u8, high: u8, y: usize)
     requires { ⌜ (y < h) × ((length (now mag) ≡ w * h) × (length (now row) ≡ w)) ⌝ }
     ensures { λ _. ⌜ now (row .exit) ≡ tabulate w (λ x. classAt (now (mag .entry)) w h low high (getD (now (row .entry)) x 0) x y) ⌝ }
 {
     if y == 0 {
-        border_row(row);
+        choose::clear_bytes(row);
         return;
     }
     if h <= y + 1 {
-        border_row(row);
+        choose::clear_bytes(row);
         return;
     }
     if w < 2 {
-        border_row(row);
+        choose::clear_bytes(row);
         return;
     }
     inner_row(mag, row, w, h, low, high, y);

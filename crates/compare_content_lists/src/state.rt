@@ -1,4 +1,6 @@
 // Settings and state records of a content detector from the bytes of a list.
+ghost use mathlib.Core.Path.{_≡_};
+ghost use Rattle.compare_content_lists.specs.State.{modeOf, settingsOf, triggeredOf, spoiledBy, givenTo, keptAfter};
 use compare_lists::input;
 use content::Answer;
 use content::Detector;
@@ -7,14 +9,18 @@ use filter::Filter;
 use filter::FilterMode;
 use timestamp::MaybeTimestamp;
 
-fn filter_mode(b: u32) -> FilterMode {
+fn filter_mode(b: u32) -> FilterMode
+    ensures { λ r. ⌜ r ≡ modeOf b ⌝ }
+{
     if b % 2 == 0 {
         return FilterMode::Suppress;
     }
     FilterMode::Merge
 }
 
-pub fn settings(script: &[u8]) -> Options {
+pub fn settings(script: &[u8]) -> Options
+    ensures { λ r. ⌜ r ≡ settingsOf (now (script .entry)) ⌝ }
+{
     let components = input::weights(script);
     let mode = filter_mode(input::byte(script, 0, 7));
     let kernel = input::kernel(script);
@@ -30,7 +36,9 @@ pub fn settings(script: &[u8]) -> Options {
 }
 
 // A merge triggered without its start.
-fn triggered(f: Filter) -> Filter {
+fn triggered(f: Filter) -> Filter
+    ensures { λ r. ⌜ r ≡ triggeredOf f ⌝ }
+{
     let last = f.last_above;
     Filter {
         last_above: last,
@@ -41,7 +49,9 @@ fn triggered(f: Filter) -> Filter {
 }
 
 // A bad record: a merge triggered without its start, a side too large, or a NaN threshold.
-fn spoiled(d: Detector, how: u32) -> Detector {
+fn spoiled(d: Detector, how: u32) -> Detector
+    ensures { λ r. ⌜ r ≡ spoiledBy d how ⌝ }
+{
     let options = d.options;
     let filter = d.filter;
     let mut stream = d.stream;
@@ -70,7 +80,9 @@ fn spoiled(d: Detector, how: u32) -> Detector {
 }
 
 // The state that call i is handed.
-pub fn given(d: Detector, script: &[u8], i: usize) -> Detector {
+pub fn given(d: Detector, script: &[u8], i: usize) -> Detector
+    ensures { λ r. ⌜ r ≡ givenTo d (now (script .entry)) i ⌝ }
+{
     if input::is_foreign(script, i) {
         return spoiled(d, input::byte(script, i, 14) % 3);
     }
@@ -78,7 +90,9 @@ pub fn given(d: Detector, script: &[u8], i: usize) -> Detector {
 }
 
 // The state after call i: what it returned, or the one before it where it was handed a bad record.
-pub fn kept(d: Detector, answer: Answer, script: &[u8], i: usize) -> Detector {
+pub fn kept(d: Detector, answer: Answer, script: &[u8], i: usize) -> Detector
+    ensures { λ r. ⌜ r ≡ keptAfter d (answer .detector) (now (script .entry)) i ⌝ }
+{
     if input::is_foreign(script, i) {
         return d;
     }

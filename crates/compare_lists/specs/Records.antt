@@ -5,10 +5,11 @@ use mathlib.Core.List.{List, [], _∷_}
 use Prim.Native.Nat.{ℕ, _+_, _*_, _-_, _/_, _%_}
 use lib.Dec.{eqb, leb}
 use lib.Ieee.{Float, nan, inf, binary64, ofBits}
-use lib.IntN.{pos}
+use lib.IntN.{pos, natAbs, _-ℤ_}
 use lib.ListN.{length, getD}
+use lib.Signed.{leZ}
 use Rattle.laws.specs.Floats.{float}
-use Rattle.timestamp.specs.Stamps.{saturatingSub}
+use Rattle.timestamp.specs.Stamps.{least, saturatingSub}
 use Rattle.timestamp.specs.declared.Timestamp.{Timestamp}
 use Rattle.score.specs.Scores.{components, defaultWeights, lumaOnlyWeights}
 use Rattle.score.specs.declared.Components.{Components}
@@ -143,3 +144,7 @@ stampOf clock = saturatingSub (record { micros = pos 9223372036854775807 }) cloc
 -- a bad record is handed in where r[13] % 32 is 1
 abbrev pub isForeign : List ℕ → ℕ → Bool
 isForeign s i = eqb (byteOf s i 13 % 32) 1
+
+-- a stamp as it is written down: plus 2^63, which no stamp is below
+unfoldable pub raisedOf : Timestamp → ℕ
+raisedOf t = cond (leZ least (t .micros)) (natAbs (t .micros -ℤ least)) 0

@@ -2,7 +2,7 @@
 // in faulty calls one less.
 ghost use mathlib.Core.Path.{_≡_};
 ghost use mathlib.Core.Bool.{cond};
-ghost use Prim.Native.Nat.{_-_, _≤_, min, max};
+ghost use Prim.Native.Nat.{_-_, _≤_, min};
 ghost use Rattle.compare_lists.specs.Memory.{areaOf, faultsOf, lentOf, leastOf, paddingOf, numbersOf, renewedBy, countOf, startOf, kindOf, renewedPlane, numberAfter};
 ghost use lib.ListN.{length};
 ghost use Rattle.laws.specs.Lists.{tabulate};
@@ -25,14 +25,12 @@ pub struct Numbers {
     pub magnitudes: usize,
 }
 
+// The lesser of n and `most`, with the bound that indices ask for.
 pub fn at_most(n: usize, most: usize) -> usize
     ensures { λ r. ⌜ r ≡ min n most ⌝ }
     ensures { λ r. ⌜ r ≤ most ⌝ }
 {
-    if n <= most {
-        return n;
-    }
-    most
+    choose::lesser_usize(n, most)
 }
 
 // w * h; 0 where a side is larger than those of the lists.
@@ -46,15 +44,6 @@ pub fn area(w: u32, h: u32) -> usize
         }
     }
     0
-}
-
-fn larger(x: u32, y: u32) -> u32
-    ensures { λ r. ⌜ r ≡ max x y ⌝ }
-{
-    if x < y {
-        return y;
-    }
-    x
 }
 
 // The length lent where `need` is asked for: one less, or up to three more.
@@ -138,7 +127,7 @@ pub fn frame(size: Size, script: &[u8], i: usize) -> Numbers
     let stride = narrow + padding(input::byte(script, i, 6));
     let need = area(stride, h);
     let n = area(w, h);
-    let side = at_most(larger(w, h) as usize, 40);
+    let side = at_most(choose::larger_u32(w, h) as usize, 40);
     Numbers {
         width: too_wide(w, fault % 2 == 1),
         height: h,

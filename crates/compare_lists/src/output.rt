@@ -1,4 +1,6 @@
 // What a call brings, written down as bytes from a place on. What does not fit in out is left out.
+ghost use mathlib.Core.Path.{_≡_};
+ghost use Rattle.compare_lists.specs.Records.{raisedOf};
 ghost use Rattle.compare_lists.specs.Wrote.{Wrote};
 use crate::memory;
 use score::Components;
@@ -65,7 +67,9 @@ fn put_sums(out: &mut [u8], at: usize, s: Sums) -> usize
 }
 
 // How far a stamp is past -2^63.
-fn raised(t: Timestamp) -> u64 {
+fn raised(t: Timestamp) -> u64
+    ensures { λ r. ⌜ r ≡ raisedOf t ⌝ }
+{
     match timestamp::duration_since(
         t,
         Timestamp {

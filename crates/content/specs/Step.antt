@@ -1,4 +1,4 @@
--- What the content detector answers to an accepted frame, by what the frame brings, and to any call (RULES 8.4 to 8.6).
+-- What the content detector answers to an accepted frame, by the frame's result, and to any call (RULES 8.4 to 8.6).
 use lib.Ieee.{le}
 use Rattle.timestamp.specs.declared.Timestamp.{Timestamp}
 use Rattle.timestamp.specs.declared.MaybeTimestamp.the-variants.{None}

@@ -292,7 +292,7 @@ pub fn is_bad(d: Detector) -> bool
     let s = d.stream;
     let f = d.filter;
     let refused = options_refusal(o) != 0;
-    let large = (4096 < s.width) | (4096 < s.height);
+    let large = (frame::MOST_SIDE < s.width) | (frame::MOST_SIDE < s.height);
     let bad = bad_filter(f);
     refused | large | bad
 }
@@ -356,7 +356,7 @@ fn filter_step(o: Options, f: Filter, ts: Timestamp, last: MaybeScore) -> Filter
     }
 }
 
-// An accepted frame, by what it brings: its sums, and the stream after it, which has its score. An inner layer of the frame calls, and no
+// An accepted frame, by its result: its sums, and the stream after it, which has its score. An inner layer of the frame calls, and no
 // call: it tests nothing.
 pub fn step(d: Detector, ts: Timestamp, p: Picture) -> Answer
     ensures { λ r. ⌜ r ≡ stepped d ts p ⌝ }

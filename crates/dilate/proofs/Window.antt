@@ -10,7 +10,7 @@ use lib.ListN.{length, getD}
 use Rattle.laws.proofs.Max.{le-max}
 use Rattle.laws.proofs.MaxAt.{max-at}
 use Rattle.laws.proofs.Planes.{getD-plane, place-lt}
-use Rattle.dilate.specs.Dilate.{around, dilated, InWindow, Holds, Marked, EdgeByte}
+use Rattle.dilate.specs.Dilate.{around, dilated, InWindow, WindowHas, Marked, EdgeByte}
 
 -- a place within r of i, below n
 pub record Near (n r i u : ℕ) : Type 0 where
@@ -55,7 +55,7 @@ module _ (s : List ℕ) (w h k x y : ℕ) (a : x < w) (b : y < h) where
       (around-ge h (k / 2) y row v (record { low = i .above; high = i .below; inside = i .row })))
 
   -- and one of them is it
-  pub dilated-at : Holds s w h k x y (getD (dilated s w h k) (y * w + x) 0)
+  pub dilated-at : WindowHas s w h k x y (getD (dilated s w h k) (y * w + x) 0)
   dilated-at =
       let c = around-at h (k / 2) y row b in
       let r = around-at w (k / 2) x (λ u. getD s (c .place * w + u) 0) a in
@@ -89,10 +89,10 @@ module _ (s : List ℕ) (w h k x y : ℕ) (a : x < w) (b : y < h) where
           rw (dilated-at .byte) at
           (M .byte (dilated-at .v * w + dilated-at .u) (omega (arith, size, place-lt (dilated-at .u) (dilated-at .v) w h (dilated-at .there .column) (dilated-at .there .row))))
 
-      strong : Holds s w h k x y 255 → (e ≡ 0) ⊎ (e ≡ 255) → e ≡ 255
+      strong : WindowHas s w h k x y 255 → (e ≡ 0) ⊎ (e ≡ 255) → e ≡ 255
       strong H (inl z) = absurd (omega (arith, z, H .byte, dilated-ge (H .u) (H .v) (H .there)))
       strong H (inr z) = z
 
-      other : (Holds s w h k x y 255 → ⊥) → (e ≡ 0) ⊎ (e ≡ 255) → e ≡ 0
+      other : (WindowHas s w h k x y 255 → ⊥) → (e ≡ 0) ⊎ (e ≡ 255) → e ≡ 0
       other n (inl z) = z
       other n (inr z) = absurd (n (record { u = dilated-at .u; v = dilated-at .v; there = dilated-at .there; byte = dilated-at .byte ∙ z }))

@@ -24,8 +24,8 @@ pub record InWindow (w h k x y u v : ℕ) : Type 0 where
   pub column : u < w
   pub row : v < h
 
--- the window about (x, y) holds a byte b
-pub record Holds (s : List ℕ) (w h k x y b : ℕ) : Type 0 where
+-- the window about (x, y) has a byte b
+pub record WindowHas (s : List ℕ) (w h k x y b : ℕ) : Type 0 where
   pub u : ℕ
   pub v : ℕ
   pub there : InWindow w h k x y u v
@@ -38,6 +38,6 @@ pub record Marked (s : List ℕ) : Type 0 where
 -- e is the edge byte of (x, y), where the strong pixels of s are 255: it is 255 exactly where the k × k window about (x, y), clipped to the
 -- frame, holds a strong pixel, otherwise 0 (RULES 5.12)
 pub record EdgeByte (s : List ℕ) (w h k x y e : ℕ) : Type 0 where
-  pub where-strong : Holds s w h k x y 255 → e ≡ 255
-  pub only-where : e ≡ 255 → Holds s w h k x y 255
-  pub otherwise : (Holds s w h k x y 255 → ⊥) → e ≡ 0
+  pub where-strong : WindowHas s w h k x y 255 → e ≡ 255
+  pub only-where : e ≡ 255 → WindowHas s w h k x y 255
+  pub otherwise : (WindowHas s w h k x y 255 → ⊥) → e ≡ 0

@@ -1,28 +1,10 @@
 // Dilation: each byte of a plane becomes the largest in a window about it, in a time that does not depend on the window's size (van Herk).
 // Sixteen lines of the plane are worked at a time: cell i of a scratch array is its places i * 16 to i * 16 + 15, place i of each of the lines.
 ghost use mathlib.Core.Path.{_≡_};
-ghost use Prim.Native.Nat.{ℕ, _+_, _-_, _*_, _/_, _<_, _≤_, min, max};
+ghost use Prim.Native.Nat.{ℕ, _+_, _-_, _*_, _<_, _≤_, max};
 ghost use lib.ListN.{length, getD};
 ghost use Rattle.dilate.specs.Dilate.{dilated};
 ghost use Rattle.dilate.specs.Scratch.{lane, lineOf, Wrote, Cells, Apart, LinesDilated, stored, prefix, suffix, keptOf, nextOf, prevOf, windowOf};
-
-fn larger(x: u8, y: u8) -> u8
-    ensures { λ r. ⌜ r ≡ max x y ⌝ }
-{
-    if x < y {
-        return y;
-    }
-    x
-}
-
-fn lesser(x: usize, y: usize) -> usize
-    ensures { λ r. ⌜ r ≡ min x y ⌝ }
-{
-    if x < y {
-        return x;
-    }
-    y
-}
 
 // i - half, and 0 where that is below 0.
 fn low(i: usize, half: usize) -> usize
@@ -98,7 +80,7 @@ fn raise_cell(a: &[u8; 65536], at: usize, r: &mut [u8; 65536])
     let before = at - 16;
     let mut j = 0;
     while j < 16 {
-        r[at + j] = larger(r[before + j], a[at + j]);
+        r[at + j] = choose::larger_u8(r[before + j], a[at + j]);
         j += 1;
     }
 }
@@ -138,7 +120,7 @@ fn lower_cell(s: &mut [u8; 65536], at: usize)
     let after = at + 16;
     let mut j = 0;
     while j < 16 {
-        s[at + j] = larger(s[after + j], s[at + j]);
+        s[at + j] = choose::larger_u8(s[after + j], s[at + j]);
         j += 1;
     }
 }
@@ -185,7 +167,7 @@ fn store_cell(
 {
     let mut j = 0;
     while j < lanes {
-        plane[first + j * across] = larger(s[p + j], r[q + j]);
+        plane[first + j * across] = choose::larger_u8(s[p + j], r[q + j]);
         j += 1;
     }
 }
@@ -240,7 +222,7 @@ fn scatter(
     let mut i = 0;
     while i < count {
         let lo = low(i, half);
-        let hi = lesser(i + half, count - 1);
+        let hi = choose::lesser_usize(i + half, count - 1);
         store_window(plane, first + i * step, across, lanes, s, r, last, lo, hi);
         i += 1;
     }
@@ -291,7 +273,7 @@ fn dilate_lines(
     let mut r = [0u8; 65536];
     let mut t = 0;
     while t < lines {
-        let lanes = lesser(16, lines - t);
+        let lanes = choose::lesser_usize(16, lines - t);
         dilate_group(
             plane,
             t * across,

@@ -4,8 +4,8 @@ ghost use mathlib.Core.Path.{_≡_};
 ghost use lib.ListN.{length};
 ghost use Rattle.frame.specs.Checks.{planeRefusal, lumaRefusal, bgrRefusal, hsvRefusal};
 
-// The greatest side of a frame.
-const MOST_SIDE: u32 = 4096;
+// The greatest side of a frame (RULES 2.6).
+pub const MOST_SIDE: u32 = 4096;
 
 // Refusals 1 to 3 of a plane whose rows are `row` bytes long.
 fn plane_refusal(row: usize, bytes: usize, width: u32, height: u32, stride: u32) -> u32

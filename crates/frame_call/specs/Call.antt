@@ -52,7 +52,7 @@ callRefusal bad f m = firstThat ((bad, 15) ∷ (not (eqb f 0), f) ∷ (not (eqb 
 abbrev pub frameNumber : (bad : Bool) (refusal width height : ℕ) → Memory → ℕ
 frameNumber bad u w h m = callRefusal bad u (memoryRefusal (length (m .store)) (length (m .scratch)) (length (m .magnitudes)) w h)
 
--- what a call brings: its answer, and the store after it (RULES 8.4)
+-- the outcome of a call: its answer, and the store after it (RULES 8.4)
 pub record Outcome (A : Type 0) : Type 0 where
   pub answer : A
   pub store : List ℕ
@@ -74,7 +74,7 @@ pictured s o bad u w h p m =
     let n = frameNumber bad u w h m in
     cond (eqb n 0) (accepted s o w h p (m .store)) (record { answer = record { number = n; stream = s; sums = noSums }; store = m .store })
 
--- a detector's answer to a frame: `stepped` of what the frame brings when it is accepted, `refused` of the number when it is refused
+-- a detector's answer to a frame: `stepped` of the frame's result when it is accepted, `refused` of the number when it is refused
 abbrev pub answeredBy : {A : Type 0} → (stepped : Picture → A) → (refused : ℕ → A) → Picture → A
 answeredBy stepped refused p = cond (eqb (p .number) 0) (stepped p) (refused (p .number))
 

@@ -19,8 +19,8 @@ pub struct PictureOptions {
     pub kernel_size: KernelSize,
 }
 
-// What a frame brings to a detector: a refusal's number or 0, the stream after it (refused: as it was) and the sums of its differences
-// (refused: all 0).
+// The result of a frame, for either detector: a refusal's number or 0, the stream after it (refused: as it was) and the sums of its
+// differences (refused: all 0).
 pub struct Picture {
     pub number: u32,
     pub stream: Stream,

@@ -36,7 +36,7 @@ fields line = parted 44 line
 unfoldable pub isFrame : List ℕ → Bool
 isFrame line = leb (length line) 8192 && isFrameOf (fields line)
 
--- what a line says that is no frame line: no frame
+-- what a line says that is not a valid frame line: no frame
 abbrev pub noFrame : FrameLine
 noFrame = record { «is_frame» = false; stamp = record { micros = pos 0 }; width = 0; height = 0 }
 
@@ -54,6 +54,6 @@ lumaOf (s ∷ []) = []
 lumaOf (s ∷ w ∷ []) = []
 lumaOf (s ∷ w ∷ h ∷ vs) = map number vs
 
--- what a line says: its frame, or none where it is no frame line (RULES 11.2, 11.3)
+-- what a line says: its frame, or none where it is not a valid frame line (RULES 11.2, 11.3)
 unfoldable pub lineOf : List ℕ → FrameLine
 lineOf line = cond (isFrame line) (frameOf (fields line)) noFrame

@@ -13,16 +13,16 @@ use timestamp::Timestamp;
 // The most bytes of a frame line, its line feed not counted (RULES 11.3).
 const MOST_BYTES: usize = 8192;
 
-// The most pixels of its frame.
-const MOST_PIXELS: u64 = 1024;
+// The most pixels of its frame (RULES 11.3): so many luma values are lent.
+pub const MOST_PIXELS: usize = 1024;
 
-// The greatest side, of 32 bits: 1 refuses far smaller ones.
-const MOST_SIDE: u64 = 4294967295;
+// The greatest side that a line may say, of 32 bits: 1 refuses far smaller ones (`frame::MOST_SIDE`).
+const LARGEST_SIDE_READ: u64 = 4294967295;
 
 // The greatest luma value.
 const MOST_VALUE: u64 = 255;
 
-// What a line says. Where it is no frame line, the stamp and the sides are 0.
+// What a line says. Where it is not a valid frame line, the stamp and the sides are 0.
 pub struct FrameLine {
     pub is_frame: bool,
     pub stamp: Timestamp,
@@ -112,7 +112,7 @@ fn no_frame() -> FrameLine
 
 // What the line says. Where it is a frame line, the first width * height bytes of luma are its values, and any value of
 // the others is right; where it is none, any value of all of them is.
-pub fn read_line(line: &[u8], luma: &mut [u8; 1024]) -> FrameLine
+pub fn read_line(line: &[u8], luma: &mut [u8; MOST_PIXELS]) -> FrameLine
     ensures { λ r. ⌜ r ≡ lineOf (now (line .entry)) ⌝ }
     ensures { λ r. ⌜ (isFrame (now (line .entry)) ≡ true → take (r .width * r .height) (now (luma .exit)) ≡ lumaOf (fields (now (line .entry)))) ⌝ }
 {
@@ -124,16 +124,16 @@ pub fn read_line(line: &[u8], luma: &mut [u8; 1024]) -> FrameLine
     if !s.ok {
         return no_frame();
     }
-    let w = next_number(line, e, MOST_SIDE);
+    let w = next_number(line, e, LARGEST_SIDE_READ);
     if !w.ok {
         return no_frame();
     }
-    let h = next_number(line, w.end, MOST_SIDE);
+    let h = next_number(line, w.end, LARGEST_SIDE_READ);
     if !h.ok {
         return no_frame();
     }
     let n = w.value * h.value;
-    if MOST_PIXELS < n {
+    if (MOST_PIXELS as u64) < n {
         return no_frame();
     }
     if !read_values(line, h.end, n as usize, luma) {

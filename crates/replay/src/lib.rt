@@ -178,7 +178,7 @@ pub fn value(d: Digest) -> u64
     d.b as u64 * 65536 + d.a as u64
 }
 
-// Prints a name, a number and a number, parted by spaces, and a line feed. No contract can say what is written.
+// Prints a name, a number and a number, separated by spaces, and a line feed. No contract can say what is written.
 pub fn print_line(name: &[u8], n: u64, value: u64) {
     io::write_all(STDOUT_FILENO, name);
     io::write_all(STDOUT_FILENO, b" ");

@@ -5,24 +5,13 @@ ghost use mathlib.Core.Bool.{cond};
 ghost use mathlib.Core.List.{_++_};
 ghost use Prim.Native.Nat.{ℕ, _+_, _*_, _^_, _<_, _≤_};
 ghost use lib.ListN.{length, take, drop};
-ghost use Rattle.scoring.specs.Planes.{zeros, joined, lumaFrame, bgrFrame, hsvFrame, planesIn, lumaPart, edgePart, restPart};
+ghost use Rattle.scoring.specs.Planes.{joined, lumaFrame, bgrFrame, hsvFrame, planesIn, lumaPart, edgePart, restPart};
 ghost use Rattle.scoring.specs.Sums.{planeSums, kernelOf, frameSums, storeAfter};
 ghost use Rattle.arch_planes.specs.Difference.{sumAbsDiff};
 ghost use Rattle.stream.specs.Stream.{noSums};
 ghost use Rattle.canny.specs.Edges.{edgePlane};
 use score::KernelSize;
 use stream::Sums;
-
-// Every byte becomes 0.
-fn clear_bytes(bytes: &mut [u8])
-    ensures { λ _. ⌜ now (bytes .exit) ≡ zeros (length (now (bytes .entry))) ⌝ }
-{
-    let mut i = 0;
-    while i < bytes.len() {
-        bytes[i] = 0;
-        i += 1;
-    }
-}
 
 // The three planes of a luma frame, in `current`, which is 3 * w * h bytes long.
 pub fn fill_luma(current: &mut [u8], plane: &[u8], w: usize, h: usize, stride: usize)
@@ -33,7 +22,7 @@ pub fn fill_luma(current: &mut [u8], plane: &[u8], w: usize, h: usize, stride: u
     let n = w * h;
     let m = n + n;
     let e = n + m;
-    clear_bytes(&mut current[0..m]);
+    choose::clear_bytes(&mut current[0..m]);
     arch_planes::copy_plane(&mut current[m..e], plane, w, h, stride);
 }
 

@@ -1,7 +1,6 @@
 // What the calls of both detectors share: the memory that a frame needs, an answer in words, settings by numbers, and what the readers
 // show.
 ghost use mathlib.Core.Path.{_≡_};
-ghost use Prim.Native.Nat.{max};
 ghost use Rattle.words.specs.Choices.{scoreTag, componentsTag};
 ghost use Rattle.stream.specs.Stream.{componentsShown};
 ghost use Rattle.station_answer.specs.Sizes.{storeBytes, scratchBytes, magnitudesCount};
@@ -14,21 +13,11 @@ use score::MaybeScore;
 use stream::Sums;
 use timestamp::MaybeTimestamp;
 
-// The larger of two numbers.
-fn larger(a: u64, b: u64) -> u64
-    ensures { λ r. ⌜ r ≡ max a b ⌝ }
-{
-    if a < b {
-        return b;
-    }
-    a
-}
-
 // How many bytes the store of a frame of this size has; 0 for a size that every call refuses by 1.
 pub fn store_bytes(width: u32, height: u32) -> u64
     ensures { λ r. ⌜ r ≡ storeBytes width height ⌝ }
 {
-    if (4096 < width) | (4096 < height) {
+    if (frame::MOST_SIDE < width) | (frame::MOST_SIDE < height) {
         return 0;
     }
     4 * (width as u64 * height as u64)
@@ -38,19 +27,19 @@ pub fn store_bytes(width: u32, height: u32) -> u64
 pub fn scratch_bytes(width: u32, height: u32) -> u64
     ensures { λ r. ⌜ r ≡ scratchBytes width height ⌝ }
 {
-    if (4096 < width) | (4096 < height) {
+    if (frame::MOST_SIDE < width) | (frame::MOST_SIDE < height) {
         return 0;
     }
     let w = width as u64;
     let h = height as u64;
-    7 * (w * h) + 2 * larger(w, h)
+    7 * (w * h) + 2 * choose::larger_u64(w, h)
 }
 
 // How many numbers of 32 bits the magnitudes of a frame of this size are; 0 for a size that every call refuses by 1.
 pub fn magnitudes_count(width: u32, height: u32) -> u64
     ensures { λ r. ⌜ r ≡ magnitudesCount width height ⌝ }
 {
-    if (4096 < width) | (4096 < height) {
+    if (frame::MOST_SIDE < width) | (frame::MOST_SIDE < height) {
         return 0;
     }
     width as u64 * height as u64

@@ -1,7 +1,7 @@
 // What both detectors keep of the stream of frames (RULES 6.5, 8.3), the sums of a frame's differences (RULES 4.4), and refusals 12 to 14
 // (RULES 12.1). Values go in and come out.
 ghost use mathlib.Core.Path.{_≡_};
-ghost use Prim.Native.Nat.{_≤_, max};
+ghost use Prim.Native.Nat.{_≤_};
 ghost use Rattle.stream.specs.Stream.{noSums, componentsOf, freshStream, isScored, nextStream, componentsShown, memoryRefusal};
 use score::Components;
 use score::MaybeComponents;
@@ -110,15 +110,6 @@ pub fn components_shown(c: MaybeComponents) -> Components
     }
 }
 
-fn larger(x: usize, y: usize) -> usize
-    ensures { λ r. ⌜ r ≡ max x y ⌝ }
-{
-    if x < y {
-        return y;
-    }
-    x
-}
-
 // Refusals 12 to 14, by the lengths of the lent memories, for a frame whose sides are at most 4,096.
 pub fn memory_refusal(
     store: usize,
@@ -136,7 +127,7 @@ pub fn memory_refusal(
     if store < 4 * n {
         return 12;
     }
-    if scratch < 7 * n + 2 * larger(w, h) {
+    if scratch < 7 * n + 2 * choose::larger_usize(w, h) {
         return 13;
     }
     if magnitudes < n {

@@ -13,6 +13,9 @@ use score::MaybeScore;
 use timestamp::MaybeTimestamp;
 use timestamp::Timestamp;
 
+// The greatest `window_width` (RULES 10.1): 129 places hold the scores on either side, and the target.
+pub const MOST_WINDOW: u32 = 64;
+
 pub struct WindowOptions {
     pub adaptive_threshold: f64,
     // The least distance from one cut to the next, in microseconds.
@@ -95,7 +98,7 @@ fn drop_score(xs: &mut [f64; 129], n: usize)
 fn can_hold(o: WindowOptions, count: usize) -> bool
     ensures { λ r. ⌜ r ≡ canHold o count ⌝ }
 {
-    if 64 < o.window_width {
+    if MOST_WINDOW < o.window_width {
         return false;
     }
     count <= 2 * (o.window_width as usize) + 1

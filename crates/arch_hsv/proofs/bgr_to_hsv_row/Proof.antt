@@ -20,11 +20,11 @@ loop-holds : tie.Need-loop-holds Inv-loop μ-loop
 unfolding rowStored
 loop-holds c = (omega arith, (refl, (refl, (refl, (refl, refl)))))
 
-sub-lesser : tie.Need-sub-lesser Inv-loop μ-loop
-sub-lesser c = omega arith
+sub-lesser-usize : tie.Need-sub-lesser-usize Inv-loop μ-loop
+sub-lesser-usize c = omega arith
 
-lesser-requires : tie.Need-lesser-requires Inv-loop μ-loop
-lesser-requires c κs = tt
+lesser-usize-requires : tie.Need-lesser-usize-requires Inv-loop μ-loop
+lesser-usize-requires c κs = tt
 
 mul-p : tie.Need-mul-p Inv-loop μ-loop
 mul-p c = omega arith
@@ -50,7 +50,7 @@ measure-requires c κs =
     let l = g .before .before in
     let i = l .loop .inv .1 in
     let x = l .loop .x in
-    let m = g .lesser .result in (
+    let m = g .lesser-usize .result in (
       (omega arith, rw (width (3 * x) (3 * m)) (length-part (3 * x) (3 * m) (l .before .before .before .args .row .now) (omega arith))),
       (i .0, (i .1 .0, i .1 .1 .0)),
     )
@@ -64,7 +64,7 @@ finish-requires c κs =
     let l = c .before .before .before .before .before .before .before .before .before .before .before in
     let s = l .before .before .before in
     let p = 3 * l .loop .x in
-    let m = c .before .before .before .before .before .before .before .before .before .lesser .result in
+    let m = c .before .before .before .before .before .before .before .before .before .lesser-usize .result in
     (s .pre .0, ((omega arith, (l .loop .inv .1 .1 .1 .1 .0 ∙ s .pre .1 .0, omega arith)), bounded (take (p + 3 * m - p) (drop p (s .args .row .now))) (e .0) (e .1 .0) (e .1 .1)))
 
 add-x : tie.Need-add-x Inv-loop μ-loop
@@ -78,11 +78,11 @@ loop-again c =
     let f = c .before .before in
     let e = c .before .before .before .before .before .before .before .measure .ensures in
     let g = c .before .before .before .before .before .before .before .before .before .before .before .before in
-    let m = g .lesser .result in
+    let m = g .lesser-usize .result in
     let l = g .before .before in
     let i = l .loop .inv .1 .1 .1 .1 in
     let part = ap (λ (k : ℕ). take k (drop (3 * l .loop .x) (l .before .before .before .args .row .now))) (width (3 * l .loop .x) (3 * m)) in (
-      omega (arith, g .lesser .ensures, g .before .loop-test .taken),
+      omega (arith, g .lesser-usize .ensures, g .before .loop-test .taken),
       (
         e .0 .size,
         (e .1 .0 .size, (e .1 .1 .size, (omega arith, block-joined _ _ _ _ _ _ _ _ _ _ _ _ part (i .1) (e .0) (e .1 .0) (e .1 .1) (f .finish .ensures)))),
@@ -106,8 +106,8 @@ bgr-to-hsv-row-spec =
     Inv-loop
     μ-loop
     loop-holds
-    sub-lesser
-    lesser-requires
+    sub-lesser-usize
+    lesser-usize-requires
     mul-p
     mul-q
     add-q

@@ -5,7 +5,7 @@ use Rattle.laws.proofs.Tab.{Filled, filled-none, filled-more}
 use Rattle.arch_hsv.specs.Hsv.{value, delta}
 use Rattle.arch_hsv.specs.Rows.{ofPixel}
 use Rattle.arch_hsv.specs.Blocks.{sixths}
-use Rattle.arch_hsv.proofs.Pixels.{holds}
+use Rattle.arch_hsv.proofs.Pixels.{first-are}
 use Rattle.arch_hsv.proofs.measure.Statement.{statement}
 use Rattle.arch_hsv.proofs.measure.Tie as tie
 
@@ -70,7 +70,7 @@ returns : tie.Need-returns Inv-loop μ-loop
 returns c =
     let i = c .before .loop .inv .1 in
     let l = c .loop-test .left in
-    (holds (i .0) l, (holds (i .1 .0) l, holds (i .1 .1) l))
+    (first-are (i .0) l, (first-are (i .1 .0) l, first-are (i .1 .1) l))
 
 pub measure-spec : {M : Type 1} → statement M
 measure-spec =

@@ -16,17 +16,17 @@ module _ (b g r x y v m : ℕ) (ex : x ≡ max b g) (ev : v ≡ max x r) (ey : y
   unfolding value delta
   delta-is = cc
 
-larger-requires : tie.Need-larger-requires
-larger-requires c κs = search needs
+larger-u8-requires : tie.Need-larger-u8-requires
+larger-u8-requires c κs = search needs
 
-larger-requires-2 : tie.Need-larger-requires-2
-larger-requires-2 c κs = search needs
+larger-u8-requires-2 : tie.Need-larger-u8-requires-2
+larger-u8-requires-2 c κs = search needs
 
-smaller-requires : tie.Need-smaller-requires
-smaller-requires c κs = search needs
+lesser-u8-requires : tie.Need-lesser-u8-requires
+lesser-u8-requires c κs = search needs
 
-smaller-requires-2 : tie.Need-smaller-requires-2
-smaller-requires-2 c κs = search needs
+lesser-u8-requires-2 : tie.Need-lesser-u8-requires-2
+lesser-u8-requires-2 c κs = search needs
 
 sub-d : tie.Need-sub-d
 sub-d c = search needs
@@ -41,11 +41,11 @@ sixths-requires : tie.Need-sixths-requires
 sixths-requires c κs =
     let s = c .before in
     let v = s .before in
-    let ex = v .before .larger .ensures in (
+    let ex = v .before .larger-u8 .ensures in (
       omega arith,
       (
-        value-is _ _ _ _ _ _ _ ex (v .larger2 .ensures) (s .smaller .ensures) (c .smaller2 .ensures),
-        delta-is _ _ _ _ _ _ _ ex (v .larger2 .ensures) (s .smaller .ensures) (c .smaller2 .ensures),
+        value-is _ _ _ _ _ _ _ ex (v .larger-u82 .ensures) (s .lesser-u8 .ensures) (c .lesser-u82 .ensures),
+        delta-is _ _ _ _ _ _ _ ex (v .larger-u82 .ensures) (s .lesser-u8 .ensures) (c .lesser-u82 .ensures),
       ),
     )
 
@@ -57,10 +57,10 @@ returns c =
     let m = c .before in
     let s = m .before in
     let v = s .before in
-    let ex = v .before .larger .ensures in (
-      value-is _ _ _ _ _ _ _ ex (v .larger2 .ensures) (s .smaller .ensures) (m .smaller2 .ensures),
+    let ex = v .before .larger-u8 .ensures in (
+      value-is _ _ _ _ _ _ _ ex (v .larger-u82 .ensures) (s .lesser-u8 .ensures) (m .lesser-u82 .ensures),
       (
-        delta-is _ _ _ _ _ _ _ ex (v .larger2 .ensures) (s .smaller .ensures) (m .smaller2 .ensures),
+        delta-is _ _ _ _ _ _ _ ex (v .larger-u82 .ensures) (s .lesser-u8 .ensures) (m .lesser-u82 .ensures),
         c .sixths .ensures .0,
       ),
     )
@@ -69,10 +69,10 @@ pub parts-spec : {M : Type 1} → statement M
 parts-spec =
     tie.close
     (tie.spec
-    larger-requires
-    larger-requires-2
-    smaller-requires
-    smaller-requires-2
+    larger-u8-requires
+    larger-u8-requires-2
+    lesser-u8-requires
+    lesser-u8-requires-2
     sub-d
     cast-sixths
     cast-sixths-2

@@ -33,32 +33,32 @@ sign-requires c κs = search needs
 sign-requires-2 : tie.Need-sign-requires-2
 sign-requires-2 c κs = search needs
 
-pick-requires : tie.Need-pick-requires
-pick-requires c κs = search needs
+pick-u8-requires : tie.Need-pick-u8-requires
+pick-u8-requires c κs = search needs
 
-mul-pick : tie.Need-mul-pick
-mul-pick c = omega (arith, ax-is (c .before))
+mul-pick-u8 : tie.Need-mul-pick-u8
+mul-pick-u8 c = omega (arith, ax-is (c .before))
 
-mul-pick-2 : tie.Need-mul-pick-2
-mul-pick-2 c = omega (arith, ay-is (c .before))
+mul-pick-u8-2 : tie.Need-mul-pick-u8-2
+mul-pick-u8-2 c = omega (arith, ay-is (c .before))
 
-pick-requires-2 : tie.Need-pick-requires-2
-pick-requires-2 c κs = search needs
+pick-u8-requires-2 : tie.Need-pick-u8-requires-2
+pick-u8-requires-2 c κs = search needs
 
-mul-pick-3 : tie.Need-mul-pick-3
-mul-pick-3 c = omega (arith, ay-is (c .before .before))
+mul-pick-u8-3 : tie.Need-mul-pick-u8-3
+mul-pick-u8-3 c = omega (arith, ay-is (c .before .before))
 
-mul-pick-4 : tie.Need-mul-pick-4
-mul-pick-4 c = omega (arith, ax-is (c .before .before))
+mul-pick-u8-4 : tie.Need-mul-pick-u8-4
+mul-pick-u8-4 c = omega (arith, ax-is (c .before .before))
 
-pick-requires-3 : tie.Need-pick-requires-3
-pick-requires-3 c κs = search needs
+pick-u8-requires-3 : tie.Need-pick-u8-requires-3
+pick-u8-requires-3 c κs = search needs
 
 returns : tie.Need-returns
 returns c =
     let s = c .before .before .before in
     let p = c .before .before in
-    by-picks _ _ _ _ _ _ _ _ _ (ax-is s) (ay-is s) (sx-is s) (sy-is s) (p .pick .ensures) (c .before .pick2 .ensures) (c .pick3 .ensures)
+    by-picks _ _ _ _ _ _ _ _ _ (ax-is s) (ay-is s) (sx-is s) (sy-is s) (p .pick-u8 .ensures) (c .before .pick-u82 .ensures) (c .pick-u83 .ensures)
 
 pub direction-spec : {M : Type 1} → statement M
 direction-spec =
@@ -68,11 +68,11 @@ direction-spec =
     size-requires-2
     sign-requires
     sign-requires-2
-    pick-requires
-    mul-pick
-    mul-pick-2
-    pick-requires-2
-    mul-pick-3
-    mul-pick-4
-    pick-requires-3
+    pick-u8-requires
+    mul-pick-u8
+    mul-pick-u8-2
+    pick-u8-requires-2
+    mul-pick-u8-3
+    mul-pick-u8-4
+    pick-u8-requires-3
     returns)

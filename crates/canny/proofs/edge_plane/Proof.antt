@@ -5,28 +5,28 @@ use Rattle.canny.proofs.Composed.{narrow-is, low-is, edge-is}
 use Rattle.canny.proofs.edge_plane.Statement.{statement}
 use Rattle.canny.proofs.edge_plane.Tie as tie
 
-clear-requires : tie.Need-clear-requires
-clear-requires c κs = search needs
+clear-bytes-requires : tie.Need-clear-bytes-requires
+clear-bytes-requires c κs = search needs
 
 same-length : tie.Need-same-length
 same-length c = search needs
 
 returns : tie.Need-returns
 returns c =
-    let call = c .before .before .clear in
+    let call = c .before .before .clear-bytes in
     let t = c .before .before .before .before in
     let n = call .kept .0 ∙ t .before .before .before .pre .1 .1 .1 in
     (narrow-is _ _ _ _ _ (t .if1 .taken) n (rw (call .kept .0) (call .ensures)), refl)
 
-clear-requires-2 : tie.Need-clear-requires-2
-clear-requires-2 c κs = search needs
+clear-bytes-requires-2 : tie.Need-clear-bytes-requires-2
+clear-bytes-requires-2 c κs = search needs
 
 same-length-2 : tie.Need-same-length-2
 same-length-2 c = search needs
 
 returns-2 : tie.Need-returns-2
 returns-2 c =
-    let call = c .before .before .clear2 in
+    let call = c .before .before .clear-bytes2 in
     let t = c .before .before .before .before in
     let n = call .kept .0 ∙ t .before .before .before .before .pre .1 .1 .1 in
     (low-is _ _ _ _ _ (t .before .if1 .left) (t .if2 .taken) n (rw (call .kept .0) (call .ensures)), refl)
@@ -53,10 +53,10 @@ pub edge-plane-spec : {M : Type 1} → statement M
 edge-plane-spec =
     tie.close
     (tie.spec
-    clear-requires
+    clear-bytes-requires
     same-length
     returns
-    clear-requires-2
+    clear-bytes-requires-2
     same-length-2
     returns-2
     strong-plane-requires

@@ -6,8 +6,8 @@ use Rattle.canny_thin.proofs.Near.{class-zeros}
 use Rattle.canny_thin.proofs.class_row.Statement.{statement}
 use Rattle.canny_thin.proofs.class_row.Tie as tie
 
-border-row-requires : tie.Need-border-row-requires
-border-row-requires c κs = search needs
+clear-bytes-requires : tie.Need-clear-bytes-requires
+clear-bytes-requires c κs = search needs
 
 same-length : tie.Need-same-length
 same-length c = search needs
@@ -16,13 +16,13 @@ returns : tie.Need-returns
 returns c =
     let s = c .before .before .before .before .before .before in
     let a = s .args in
-    class-zeros (a .mag .now) (a .w) (a .h) (a .low) (a .high) (a .y) (a .row .now) _ (s .pre .1 .1) (λ x b. at-top (a .w) (a .h) x (a .y) (omega arith)) (c .before .before .border-row .ensures)
+    class-zeros (a .mag .now) (a .w) (a .h) (a .low) (a .high) (a .y) (a .row .now) _ (s .pre .1 .1) (λ x b. at-top (a .w) (a .h) x (a .y) (omega arith)) (c .before .before .clear-bytes .ensures)
 
 add-if2 : tie.Need-add-if2
 add-if2 c = search needs
 
-border-row-requires-2 : tie.Need-border-row-requires-2
-border-row-requires-2 c κs = search needs
+clear-bytes-requires-2 : tie.Need-clear-bytes-requires-2
+clear-bytes-requires-2 c κs = search needs
 
 same-length-2 : tie.Need-same-length-2
 same-length-2 c = search needs
@@ -31,10 +31,10 @@ returns-2 : tie.Need-returns-2
 returns-2 c =
     let s = c .before .before .before .before .before .before .before in
     let a = s .args in
-    class-zeros (a .mag .now) (a .w) (a .h) (a .low) (a .high) (a .y) (a .row .now) _ (s .pre .1 .1) (λ x b. at-bottom (a .w) (a .h) x (a .y) (omega arith)) (c .before .before .border-row2 .ensures)
+    class-zeros (a .mag .now) (a .w) (a .h) (a .low) (a .high) (a .y) (a .row .now) _ (s .pre .1 .1) (λ x b. at-bottom (a .w) (a .h) x (a .y) (omega arith)) (c .before .before .clear-bytes2 .ensures)
 
-border-row-requires-3 : tie.Need-border-row-requires-3
-border-row-requires-3 c κs = search needs
+clear-bytes-requires-3 : tie.Need-clear-bytes-requires-3
+clear-bytes-requires-3 c κs = search needs
 
 same-length-3 : tie.Need-same-length-3
 same-length-3 c = search needs
@@ -43,7 +43,7 @@ returns-3 : tie.Need-returns-3
 returns-3 c =
     let s = c .before .before .before .before .before .before .before .before in
     let a = s .args in
-    class-zeros (a .mag .now) (a .w) (a .h) (a .low) (a .high) (a .y) (a .row .now) _ (s .pre .1 .1) (λ x b. at-right (a .w) (a .h) x (a .y) (omega arith)) (c .before .before .border-row3 .ensures)
+    class-zeros (a .mag .now) (a .w) (a .h) (a .low) (a .high) (a .y) (a .row .now) _ (s .pre .1 .1) (λ x b. at-right (a .w) (a .h) x (a .y) (omega arith)) (c .before .before .clear-bytes3 .ensures)
 
 inner-row-requires : tie.Need-inner-row-requires
 inner-row-requires c κs = search needs
@@ -58,14 +58,14 @@ pub class-row-spec : {M : Type 1} → statement M
 class-row-spec =
     tie.close
     (tie.spec
-    border-row-requires
+    clear-bytes-requires
     same-length
     returns
     add-if2
-    border-row-requires-2
+    clear-bytes-requires-2
     same-length-2
     returns-2
-    border-row-requires-3
+    clear-bytes-requires-3
     same-length-3
     returns-3
     inner-row-requires

@@ -22,21 +22,21 @@ sub-keeps-by c = search needs
 keeps-by-requires-4 : tie.Need-keeps-by-requires-4
 keeps-by-requires-4 c κs = search needs
 
-pick-requires : tie.Need-pick-requires
-pick-requires c κs = search needs
+pick-bool-requires : tie.Need-pick-bool-requires
+pick-bool-requires c κs = search needs
 
-pick-requires-2 : tie.Need-pick-requires-2
-pick-requires-2 c κs = search needs
+pick-bool-requires-2 : tie.Need-pick-bool-requires-2
+pick-bool-requires-2 c κs = search needs
 
-pick-requires-3 : tie.Need-pick-requires-3
-pick-requires-3 c κs = search needs
+pick-bool-requires-3 : tie.Need-pick-bool-requires-3
+pick-bool-requires-3 c κs = search needs
 
 returns : tie.Need-returns
 returns c =
     let k = c .before .before .before in
     let a = k .before .before .before .before .args in
     along-is (a .mag .now) (a .w) (a .dir) (a .i) _ _ _ _ _ _ _ (k .before .before .before .keeps-by .ensures) (k .before .before .keeps-by2 .ensures) (k .before .keeps-by3 .ensures)
-    (k .keeps-by4 .ensures) (c .before .before .pick .ensures) (c .before .pick2 .ensures) (c .pick3 .ensures)
+    (k .keeps-by4 .ensures) (c .before .before .pick-bool .ensures) (c .before .pick-bool2 .ensures) (c .pick-bool3 .ensures)
 
 pub keeps-along-spec : {M : Type 1} → statement M
 keeps-along-spec =
@@ -48,7 +48,7 @@ keeps-along-spec =
     keeps-by-requires-3
     sub-keeps-by
     keeps-by-requires-4
-    pick-requires
-    pick-requires-2
-    pick-requires-3
+    pick-bool-requires
+    pick-bool-requires-2
+    pick-bool-requires-3
     returns)

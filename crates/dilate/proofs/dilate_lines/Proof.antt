@@ -20,11 +20,11 @@ returns c = lines-none _ _ _ _ _ _ _ _ (λ p q. omega arith)
 loop-holds : tie.Need-loop-holds Inv-loop μ-loop
 loop-holds c = (omega arith, (refl, (refl, lines-none _ _ _ _ _ _ _ _ (λ p q. omega arith))))
 
-sub-lesser : tie.Need-sub-lesser Inv-loop μ-loop
-sub-lesser c = omega arith
+sub-lesser-usize : tie.Need-sub-lesser-usize Inv-loop μ-loop
+sub-lesser-usize c = omega arith
 
-lesser-requires : tie.Need-lesser-requires Inv-loop μ-loop
-lesser-requires c κs = tt
+lesser-usize-requires : tie.Need-lesser-usize-requires Inv-loop μ-loop
+lesser-usize-requires c κs = tt
 
 mul-dilate-group : tie.Need-mul-dilate-group Inv-loop μ-loop
 mul-dilate-group c =
@@ -38,7 +38,7 @@ dilate-group-requires c κs =
       (t .loop .inv .1 .0, t .loop .inv .1 .1 .0),
       (
         (omega arith, (p .pre .0 .0, (omega arith, (omega arith, p .pre .0 .1)))),
-        rw (t .loop .inv .1 .1 .1 .len) (apart-from (t .loop .t) (c .before .before .before .lesser .result) (p .pre .1) (omega arith)),
+        rw (t .loop .inv .1 .1 .1 .len) (apart-from (t .loop .t) (c .before .before .before .lesser-usize .result) (p .pre .1) (omega arith)),
       ),
     )
 
@@ -73,8 +73,8 @@ dilate-lines-spec =
     μ-loop
     returns
     loop-holds
-    sub-lesser
-    lesser-requires
+    sub-lesser-usize
+    lesser-usize-requires
     mul-dilate-group
     dilate-group-requires
     add-t

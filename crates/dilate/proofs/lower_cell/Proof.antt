@@ -20,20 +20,20 @@ add-after c = omega arith
 loop-holds : tie.Need-loop-holds Inv-loop μ-loop
 loop-holds c = (omega arith, wrote-none _ _ _)
 
-add-larger : tie.Need-add-larger Inv-loop μ-loop
-add-larger c = omega arith
+add-larger-u8 : tie.Need-add-larger-u8 Inv-loop μ-loop
+add-larger-u8 c = omega arith
 
-element-copy-out-larger : tie.Need-element-copy-out-larger Inv-loop μ-loop
-element-copy-out-larger c = omega arith
+element-copy-out-larger-u8 : tie.Need-element-copy-out-larger-u8 Inv-loop μ-loop
+element-copy-out-larger-u8 c = omega arith
 
-add-larger-2 : tie.Need-add-larger-2 Inv-loop μ-loop
-add-larger-2 c = omega arith
+add-larger-u8-2 : tie.Need-add-larger-u8-2 Inv-loop μ-loop
+add-larger-u8-2 c = omega arith
 
-element-copy-out-larger-2 : tie.Need-element-copy-out-larger-2 Inv-loop μ-loop
-element-copy-out-larger-2 c = omega arith
+element-copy-out-larger-u8-2 : tie.Need-element-copy-out-larger-u8-2 Inv-loop μ-loop
+element-copy-out-larger-u8-2 c = omega arith
 
-larger-requires : tie.Need-larger-requires Inv-loop μ-loop
-larger-requires c κs = tt
+larger-u8-requires : tie.Need-larger-u8-requires Inv-loop μ-loop
+larger-u8-requires c κs = tt
 
 add-s : tie.Need-add-s Inv-loop μ-loop
 add-s c = omega arith
@@ -50,7 +50,7 @@ loop-less c = omega arith
 loop-again : tie.Need-loop-again Inv-loop μ-loop
 loop-again c =
     let t = c .before .before .before .before in
-    (omega arith, wrote-more _ (t .loop .inv .1) (omega arith) (c .larger .ensures ∙ read-after (t .loop .inv .1)))
+    (omega arith, wrote-more _ (t .loop .inv .1) (omega arith) (c .larger-u8 .ensures ∙ read-after (t .loop .inv .1)))
 
 returns : tie.Need-returns Inv-loop μ-loop
 returns c = wrote-all _ (c .before .loop .inv .1) (omega arith)
@@ -63,11 +63,11 @@ lower-cell-spec =
     μ-loop
     add-after
     loop-holds
-    add-larger
-    element-copy-out-larger
-    add-larger-2
-    element-copy-out-larger-2
-    larger-requires
+    add-larger-u8
+    element-copy-out-larger-u8
+    add-larger-u8-2
+    element-copy-out-larger-u8-2
+    larger-u8-requires
     add-s
     element-write-s
     add-j

@@ -40,14 +40,14 @@ inside c = c .before .before .before .pre .1 .0 .inside (c .before .loop .i) 0 (
 low-requires : tie.Need-low-requires Inv-loop μ-loop
 low-requires c κs = tt
 
-add-lesser : tie.Need-add-lesser Inv-loop μ-loop
-add-lesser c = omega arith
+add-lesser-usize : tie.Need-add-lesser-usize Inv-loop μ-loop
+add-lesser-usize c = omega arith
 
-sub-lesser : tie.Need-sub-lesser Inv-loop μ-loop
-sub-lesser c = omega arith
+sub-lesser-usize : tie.Need-sub-lesser-usize Inv-loop μ-loop
+sub-lesser-usize c = omega arith
 
-lesser-requires : tie.Need-lesser-requires Inv-loop μ-loop
-lesser-requires c κs = tt
+lesser-usize-requires : tie.Need-lesser-usize-requires Inv-loop μ-loop
+lesser-usize-requires c κs = tt
 
 mul-store-window : tie.Need-mul-store-window Inv-loop μ-loop
 mul-store-window c = omega (arith, inside (c .before .before .before))
@@ -77,10 +77,10 @@ loop-again c =
     let a = p .args in
     let i = t .loop .i in (
       omega arith,
-      lines-cell _ (λ j. windowOf (lane (a .r .now) j) (lane (a .s .now) j) ((a .count - 1) / (2 * a .half + 1) * (2 * a .half + 1)) (l .before .low .result) (l .lesser .result))
+      lines-cell _ (λ j. windowOf (lane (a .r .now) j) (lane (a .s .now) j) ((a .count - 1) / (2 * a .half + 1) * (2 * a .half + 1)) (l .before .low .result) (l .lesser-usize .result))
           (p .pre .1 .0) (t .loop .inv .1) (n .loop-test .taken) (e .store-window .ensures)
           (λ j h. around-is (lineOf (a .plane .now) (a .first) (a .step) (a .across) j) (a .half) (a .count) i _ _ (lane (a .r .now) j) (lane (a .s .now) j) (n .loop-test .taken)
-          (λ u b. p .pre .1 .1 .0 .at u j b h) (λ u b. p .pre .1 .1 .1 .at u j b h) (l .before .low .ensures) (l .lesser .ensures)),
+          (λ u b. p .pre .1 .1 .0 .at u j b h) (λ u b. p .pre .1 .1 .1 .at u j b h) (l .before .low .ensures) (l .lesser-usize .ensures)),
     )
 
 same-length : tie.Need-same-length Inv-loop μ-loop
@@ -102,9 +102,9 @@ scatter-spec =
     mul-last
     loop-holds
     low-requires
-    add-lesser
-    sub-lesser
-    lesser-requires
+    add-lesser-usize
+    sub-lesser-usize
+    lesser-usize-requires
     mul-store-window
     add-store-window
     store-window-requires

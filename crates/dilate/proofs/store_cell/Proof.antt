@@ -18,20 +18,20 @@ loop-holds : tie.Need-loop-holds Inv-loop μ-loop
 unfolding stored
 loop-holds c = (omega arith, (refl, refl))
 
-add-larger : tie.Need-add-larger Inv-loop μ-loop
-add-larger c = omega arith
+add-larger-u8 : tie.Need-add-larger-u8 Inv-loop μ-loop
+add-larger-u8 c = omega arith
 
-element-copy-out-larger : tie.Need-element-copy-out-larger Inv-loop μ-loop
-element-copy-out-larger c = omega arith
+element-copy-out-larger-u8 : tie.Need-element-copy-out-larger-u8 Inv-loop μ-loop
+element-copy-out-larger-u8 c = omega arith
 
-add-larger-2 : tie.Need-add-larger-2 Inv-loop μ-loop
-add-larger-2 c = omega arith
+add-larger-u8-2 : tie.Need-add-larger-u8-2 Inv-loop μ-loop
+add-larger-u8-2 c = omega arith
 
-element-copy-out-larger-2 : tie.Need-element-copy-out-larger-2 Inv-loop μ-loop
-element-copy-out-larger-2 c = omega arith
+element-copy-out-larger-u8-2 : tie.Need-element-copy-out-larger-u8-2 Inv-loop μ-loop
+element-copy-out-larger-u8-2 c = omega arith
 
-larger-requires : tie.Need-larger-requires Inv-loop μ-loop
-larger-requires c κs = tt
+larger-u8-requires : tie.Need-larger-u8-requires Inv-loop μ-loop
+larger-u8-requires c κs = tt
 
 -- byte j is within the plane
 inside : (c : tie.In-loop Inv-loop μ-loop) → let a = c .before .before .before .args in a .first + c .before .loop .j * a .across < length (a .plane .now)
@@ -56,7 +56,7 @@ loop-again : tie.Need-loop-again Inv-loop μ-loop
 loop-again c =
     let t = c .before .before .before .before in
     let a = t .before .before .args in
-    (omega arith, (rw (t .loop .inv .1 .0, c .larger .ensures) (stored-more (a .plane .now) (a .first) (a .across) (t .loop .j) (λ i. max (getD (a .s .now) (a .p + i) 0) (getD (a .r .now) (a .q + i) 0))), simp length-set (t .loop .inv .1 .1)))
+    (omega arith, (rw (t .loop .inv .1 .0, c .larger-u8 .ensures) (stored-more (a .plane .now) (a .first) (a .across) (t .loop .j) (λ i. max (getD (a .s .now) (a .p + i) 0) (getD (a .r .now) (a .q + i) 0))), simp length-set (t .loop .inv .1 .1)))
 
 same-length : tie.Need-same-length Inv-loop μ-loop
 same-length c = omega arith
@@ -71,11 +71,11 @@ store-cell-spec =
     Inv-loop
     μ-loop
     loop-holds
-    add-larger
-    element-copy-out-larger
-    add-larger-2
-    element-copy-out-larger-2
-    larger-requires
+    add-larger-u8
+    element-copy-out-larger-u8
+    add-larger-u8-2
+    element-copy-out-larger-u8-2
+    larger-u8-requires
     mul-plane
     add-plane
     slice-write-plane

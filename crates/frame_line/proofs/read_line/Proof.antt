@@ -133,11 +133,11 @@ returns-6 c =
     let v = c .before .before in
     says-none _ _ _ (values-missed _ _ _ _ (both (v .before .before .before .before .before)) (v .read-values .result) (v .read-values .ensures .0) (c .before .if6 .taken)) (c .no-frame6 .ensures)
 
-cast-t16 : tie.Need-cast-t16
-cast-t16 c = omega (arith, width-small _ _ _ _ (both (c .before .before .before .before .before .before .before .before)))
-
 cast-t17 : tie.Need-cast-t17
-cast-t17 c = omega (arith, height-small _ _ _ _ (both (c .before .before .before .before .before .before .before .before .before)))
+cast-t17 c = omega (arith, width-small _ _ _ _ (both (c .before .before .before .before .before .before .before .before)))
+
+cast-t18 : tie.Need-cast-t18
+cast-t18 c = omega (arith, height-small _ _ _ _ (both (c .before .before .before .before .before .before .before .before .before)))
 
 returns-7 : tie.Need-returns-7
 returns-7 c =
@@ -171,6 +171,6 @@ read-line-spec =
     read-values-requires
     no-frame-requires-6
     returns-6
-    cast-t16
     cast-t17
+    cast-t18
     returns-7)

@@ -16,8 +16,8 @@ mul-result c = omega (arith, small (c .before .args .width) (c .before .args .he
 mul-result-2 : tie.Need-mul-result-2
 mul-result-2 c = omega (arith, small (c .before .args .width) (c .before .args .height) (c .if1 .left) .area)
 
-larger-requires : tie.Need-larger-requires
-larger-requires c κs = search needs
+larger-u64-requires : tie.Need-larger-u64-requires
+larger-u64-requires c κs = search needs
 
 mul-result-3 : tie.Need-mul-result-3
 mul-result-3 c = search needs
@@ -25,13 +25,13 @@ mul-result-3 c = search needs
 add-result : tie.Need-add-result
 add-result c =
     let s = small (c .before .before .args .width) (c .before .before .args .height) (c .before .if1 .left) in
-    omega (arith, s .area, s .wide, s .high, c .larger .ensures)
+    omega (arith, s .area, s .wide, s .high, c .larger-u64 .ensures)
 
 returns-2 : tie.Need-returns-2
 unfolding scratchBytes
-returns-2 c = rw (c .before .if1 .left, c .larger .ensures)
+returns-2 c = rw (c .before .if1 .left, c .larger-u64 .ensures)
 
 pub scratch-bytes-spec : {M : Type 1} → statement M
 scratch-bytes-spec =
     tie.close
-    (tie.spec returns mul-result mul-result-2 larger-requires mul-result-3 add-result returns-2)
+    (tie.spec returns mul-result mul-result-2 larger-u64-requires mul-result-3 add-result returns-2)

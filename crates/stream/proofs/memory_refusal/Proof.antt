@@ -25,8 +25,8 @@ returns c = simp (lt-ltb _ _ (c .if1 .taken))
 mul-if2 : tie.Need-mul-if2
 mul-if2 c = omega (arith, small (c .before))
 
-larger-requires : tie.Need-larger-requires
-larger-requires c κs = search needs
+larger-usize-requires : tie.Need-larger-usize-requires
+larger-usize-requires c κs = search needs
 
 mul-if2-2 : tie.Need-mul-if2-2
 mul-if2-2 c = search needs
@@ -36,17 +36,17 @@ add-if2 c = omega (arith, small (c .before .before))
 
 returns-2 : tie.Need-returns-2
 unfolding memoryRefusal
-returns-2 c = simp (← c .before .larger .ensures, le-ltb _ _ (c .before .before .if1 .left), lt-ltb _ _ (c .if2 .taken))
+returns-2 c = simp (← c .before .larger-usize .ensures, le-ltb _ _ (c .before .before .if1 .left), lt-ltb _ _ (c .if2 .taken))
 
 returns-3 : tie.Need-returns-3
 unfolding memoryRefusal
 returns-3 c =
-    simp (← c .before .before .larger .ensures, le-ltb _ _ (c .before .before .before .if1 .left), le-ltb _ _ (c .before .if2 .left), lt-ltb _ _ (c .if3 .taken))
+    simp (← c .before .before .larger-usize .ensures, le-ltb _ _ (c .before .before .before .if1 .left), le-ltb _ _ (c .before .if2 .left), lt-ltb _ _ (c .if3 .taken))
 
 returns-4 : tie.Need-returns-4
 unfolding memoryRefusal
 returns-4 c =
-    simp (← c .before .before .larger .ensures, le-ltb _ _ (c .before .before .before .if1 .left), le-ltb _ _ (c .before .if2 .left), le-ltb _ _ (c .if3 .left))
+    simp (← c .before .before .larger-usize .ensures, le-ltb _ _ (c .before .before .before .if1 .left), le-ltb _ _ (c .before .if2 .left), le-ltb _ _ (c .if3 .left))
 
 pub memory-refusal-spec : {M : Type 1} → statement M
 memory-refusal-spec =
@@ -56,7 +56,7 @@ memory-refusal-spec =
     mul-if1
     returns
     mul-if2
-    larger-requires
+    larger-usize-requires
     mul-if2-2
     add-if2
     returns-2

@@ -31,8 +31,8 @@ area-requires c κs = search needs
 area-requires-2 : tie.Need-area-requires-2
 area-requires-2 c κs = search needs
 
-larger-requires : tie.Need-larger-requires
-larger-requires c κs = search needs
+larger-u32-requires : tie.Need-larger-u32-requires
+larger-u32-requires c κs = search needs
 
 cast-at-most : tie.Need-cast-at-most
 cast-at-most c = search needs
@@ -88,7 +88,7 @@ returns c = simp (
   c .before .before .before .before .before .before .strided .ensures,
   c .before .before .before .before .before .before .before .too-wide .ensures,
   c .before .before .before .before .before .before .before .before .at-most .ensures .0,
-  c .before .before .before .before .before .before .before .before .before .larger .ensures,
+  c .before .before .before .before .before .before .before .before .before .larger-u32 .ensures,
   c .before .before .before .before .before .before .before .before .before .before .area2 .ensures .0,
   c .before .before .before .before .before .before .before .before .before .before .before .area .ensures .0,
   c .before .before .before .before .before .before .before .before .before .before .before .before .padding .ensures .0,
@@ -112,7 +112,7 @@ frame-spec =
     add-stride
     area-requires
     area-requires-2
-    larger-requires
+    larger-u32-requires
     cast-at-most
     at-most-requires
     too-wide-requires

@@ -1,11 +1,11 @@
--- `scoring::clear_bytes` meets its contract. The invariant: each byte below i is 0.
+-- `choose::clear_bytes` meets its contract. The invariant: each byte below i is 0.
 use mathlib.Core.Path.{refl}
 use Prim.Native.Nat.{ℕ, _≤_, _-_}
 use native.Mathlib.Omega.{arith}
 use lib.ListN.{length}
 use Rattle.laws.proofs.Tab.{Filled, filled-none, filled-more, filled-all}
-use Rattle.scoring.proofs.clear_bytes.Statement.{statement}
-use Rattle.scoring.proofs.clear_bytes.Tie as tie
+use Rattle.choose.proofs.clear_bytes.Statement.{statement}
+use Rattle.choose.proofs.clear_bytes.Tie as tie
 
 abbrev Inv-loop : tie.InvT-loop
 Inv-loop bytes₀ i₀ bytes i = (i ≤ length bytes₀) × Filled 0 (λ (k : ℕ). 0) (length bytes₀) i bytes
