@@ -392,7 +392,8 @@ static inline uint32_t mw_sum(const struct mw_answer *answer, uint32_t place)
     return place < 4 ? (uint32_t)answer->words[8 + place] : 0;
 }
 
-/* The number of pixels that each sum is over: a component is its sum / count. 0 if the frame has no score. */
+/* The number of pixels that each sum is over: a component is its sum / count, or 0.0 where the count is 0. The count is
+ * 0 if the frame has no score. */
 static inline uint32_t mw_count(const struct mw_answer *answer)
 {
     return (uint32_t)answer->words[12];

@@ -1,4 +1,4 @@
--- A frame that its constructor refuses, in a state that is not bad, is refused by the call on it with the same number: the answer has that number, the state as it was and no cut, and the store is as it was. So nobody has to read a constructor's number before the call.
+-- A frame that its constructor refuses, in a state that is not bad, is refused by the call on it with the same number: the answer has that number, the state as it was, no cut and no sums, and the store is as it was. So nobody has to read a constructor's number before the call.
 use mathlib.Core.Path.{_≡_}
 use mathlib.Core.Bool.{false}
 use Prim.Native.Nat.{ℕ, _<_}

@@ -2,3 +2,4 @@ pub mod Lengths
 pub mod Memory
 pub mod Framed
 pub mod NoPixels
+pub mod Means

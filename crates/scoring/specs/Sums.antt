@@ -1,4 +1,4 @@
--- The differences of a frame's planes with those of the store, as whole sums and the number of pixels (RULES 4.1, 4.3), and the store after an
+-- The differences of a frame's planes with those of the store, as whole sums and the number of pixels (RULES 4.1, 4.4), and the store after an
 -- accepted frame (RULES 12.3).
 use mathlib.Core.Bool.{Bool, cond}
 use mathlib.Core.List.{List, _++_}

@@ -1,4 +1,4 @@
--- What the station's calls promise, for either detector (RULES 15.3, 15.5 and 15.6). `s` is the state's words at entry and `s′` at exit, `a`
+-- What the station's calls promise, for either detector (RULES 15.3, 15.5, 15.6 and 15.10). `s` is the state's words at entry and `s′` at exit, `a`
 -- and `a′` the answer's, `m` and `m′` the store, the scratch and the magnitudes, `r` the number that is returned.
 use mathlib.Core.Path.{_≡_}
 use mathlib.Core.List.{List}
@@ -41,7 +41,7 @@ pub record FrameContract {D : Type 0} (l : Layout D) (b : Brought D) (r : ℕ) (
   pub answer : a′ ≡ after r (answerWords (b .cut) (b .score) (b .components) (b .sums)) a
   -- the answer of an accepted call is read as the cut, the score, the components and the sums that the definition gives
   pub answer-back : r ≡ 0 → ReadAs (b .cut) (b .score) (b .components) (b .sums) a′
-  -- from its five whole numbers and the state's weights a station works out the components and the score of an accepted call again (RULES 6.8)
+  -- from its five whole numbers and the state's weights a station works out the components and the score of an accepted call again (RULES 15.10)
   pub recomputed : r ≡ 0 → FromSums (l .weightsOf (l .heldBy s)) (scoreIn a′) (componentsIn a′) (sumsIn a′)
   -- the store is the one that the definition gives
   pub store : m′ .store ≡ b .store

@@ -7,7 +7,7 @@ use score::Components;
 use score::MaybeComponents;
 use score::MaybeScore;
 
-// The whole sums of the differences of a frame's planes with those before, and the number of pixels: what its components and its score
+// The whole sums of the differences of a frame's planes with those of the frame before, and the number of pixels: what its components and its score
 // come from.
 pub struct Sums {
     pub hue: u32,
