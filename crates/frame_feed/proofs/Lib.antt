@@ -1,1 +1,2 @@
 pub mod OnePlane
+pub mod ThreePlanes
