@@ -19,14 +19,13 @@ use mir.Val.{Val, WT, hasTy, vint, vptr, vstruct, vcons, vnil}
 use base.Logic.{SProp, ent, sep, emp, guard, via, fst∗, id⊢}
 use base.Fml.{Fml, ftrue, fsep, froom, fdies, flft}
 use prog.Wp.{Heap, Env, Calls, Loops, WpFn, Tables}
-use ghost.Atoms.{Atoms, sem}
+use ghost.Atoms.{Atoms}
 use contract.Lifetimes.{Lfts, Shares, toks}
-use types.Kit.{Given, Item, Sq, runs as goes, atRet, ‵, raw, given, later, _$_, _∵_, !, qed, move, use1, use2, _⊛_, split, join, learn, fsplit, fjoin, frame, await, done}
+use types.Kit.{Given, Sq, runs as goes, atRet, ‵, raw, given, later, _$_, _∵_, !, qed, move, use1, use2, _⊛_, split, join, learn, fsplit, fjoin, frame, await, done}
 use types.Part.{whole, sub, look-in, agg}
 use types.Run.{look, init, stop, hop, fld, from, load, addr, of-opd, and-then, no-more, assigns, land, returns, enter, params1, pass1, pass0}
 use sound.WpLaws.{FmC, fmOf}
-use denote.RattleType.{Denots, flat}
-use denote.Laws.{Are, Ises}
+use denote.RattleType.{flat}
 use denote.Builtin.{u8, u32, i32}
 use denote.Ref.{NamedLft, RefT}
 use denote.Signature.{Signature, plain, namedLft, mutSliceOf, shrSliceOf, typesAt}
@@ -34,10 +33,10 @@ use denote.Slice.{sliceVal, sliceTy, ShrSlice, MutSlice, slice-vals, mut-slice-t
 use denote.Steps.{said}
 use denote.Struct.Declared.{Declared, row}
 use denote.Struct.Laws as LL
-use denote.Struct.Rest.{all-own, own-open}
-use denote.Struct.Values.{Values, intos}
+use denote.Struct.Rest.{own-open}
+use denote.Struct.Values.{intos}
 use denote.Triple.Call.{calls-from}
-use denote.Triple.Entry.{Args, Res, Vals, onEntry}
+use denote.Triple.Entry.{Args, Vals, onEntry}
 use denote.Triple.Spec.{Meets, tripleOf}
 use denote.Triple.Statement.{Triple}
 use Rattle.timestamp.specs.declared.Timestamp.{Timestamp}
