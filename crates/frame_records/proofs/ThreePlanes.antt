@@ -2,7 +2,7 @@
 --     three-planes     the function, by the types of its answer and its state, the record's name and the callee
 --     runs         on a state, a record and memory it does what the callee does on the state, the record's parts and the memory
 --     callee, caller     the signatures of the two
---     meets        so it meets its contract where the callee meets its own, and what this ensures gives what that ensures
+--     meets        so it meets its contract where the callee meets its own, and what the callee ensures gives what it is to ensure
 -- The record's part goes to the callee, and the lent memory at its own lifetimes, shares and names. Nothing of a parameter is handed back at a return but the last values of the memory, and of these the callee's contract speaks.
 -- The callee has a lifetime for each plane, and the record one for all: its token is parted in three for the call.
 -- Assumes `Given`.
