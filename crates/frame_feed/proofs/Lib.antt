@@ -1,0 +1,3 @@
+pub mod Answered
+pub mod OnePlane
+pub mod ThreePlanes
