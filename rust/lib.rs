@@ -53,7 +53,8 @@
 //! by the count, once, in `f64`, or 0.0 if the count is 0. So the five numbers and the weights give the components and
 //! the score again, to the last bit. This makes two stations comparable: where their five numbers for a frame are
 //! equal, equal weights give equal components, and equal scores if both have one; where a number differs, that is not
-//! rounding: the frames differ, or the settings for edges.
+//! rounding: the frame differs, or the frame before it (or whether there was one of this size), or the settings for
+//! edges.
 //!
 //! # Frames without a score
 //!

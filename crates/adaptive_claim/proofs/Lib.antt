@@ -2,3 +2,4 @@ pub mod Counted
 pub mod Good
 pub mod Views
 pub mod Theorem
+pub mod Sums

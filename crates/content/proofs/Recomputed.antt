@@ -6,7 +6,8 @@ use Prim.Native.Nat.{ℕ}
 use Rattle.score.specs.Scores.{edgesEnabled}
 use Rattle.stream.specs.Stream.{noSums, FromSums}
 use Rattle.frame_call.specs.Call.{Memory, Call, Called}
-use Rattle.frame_call.proofs.Sums.{none-from, call-from, pixelsOf, no-pixels-no-sums, edges-off}
+use Rattle.frame_call.specs.Stretch.{pixelsOf}
+use Rattle.frame_call.proofs.Sums.{none-from, call-from, no-pixels-no-sums, edges-off}
 use Rattle.content.specs.declared.Detector.{Detector}
 use Rattle.content.specs.declared.Answer.{Answer}
 use Rattle.content.specs.Options.{pictureOptions}
@@ -39,7 +40,7 @@ from-called d c r n m m′ made = subst (Recomputed d) (sym (made .answered)) (r
 
 -- ---- where an answer's sums are 0 (RULES 4.4, 4.5); that they are where it has no score is in `FromSums`
 
-cleared-sums : (d : Detector) → clearedAnswer d .sums ≡ noSums
+pub cleared-sums : (d : Detector) → clearedAnswer d .sums ≡ noSums
 unfolding clearedAnswer
 cleared-sums d = by-bad (badState d) refl
   where

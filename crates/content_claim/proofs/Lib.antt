@@ -4,3 +4,4 @@ pub mod Good
 pub mod Views
 pub mod Theorem
 pub mod Sample
+pub mod Sums

@@ -4,3 +4,4 @@ pub mod Returned
 pub mod Numbers
 pub mod Runs
 pub mod Sums
+pub mod Stretches

@@ -22,7 +22,8 @@ use Rattle.stream.specs.declared.Sums.{Sums}
 use Rattle.stream.specs.Stream.{noSums, componentsOf, componentsShown, isScored, nextStream, FromSums}
 use Rattle.frame_call.specs.declared.PictureOptions.{PictureOptions}
 use Rattle.frame_call.specs.declared.Picture.{Picture}
-use Rattle.frame_call.specs.Call.{Memory, Call, luma, bgr, hsv, clear, byCall, frameNumber, sumsOf, accepted, pictured, answeredBy, outcomeOf}
+use Rattle.frame_call.specs.Call.{Memory, Call, luma, bgr, hsv, clear, frameNumber, sumsOf, accepted, pictured, answeredBy, outcomeOf}
+use Rattle.frame_call.specs.Stretch.{pixelsOf}
 use Rattle.frame_call.proofs.Filled.{Sized, luma-sized, bgr-sized, hsv-sized}
 use Rattle.frame_call.proofs.Runs.{if-accepted, if-refused}
 
@@ -83,10 +84,6 @@ module _ {A : Type 0} (s : Stream) (o : PictureOptions) (bad : Bool) (stepped : 
     call-from clear = cleared-from
 
 -- ---- where sums are 0
-
--- how many pixels the frame of a call has; `clear` has no frame
-abbrev pub pixelsOf : Call → ℕ
-pixelsOf c = byCall (λ u w h p ts m. w * h) 0 c
 
 module _ {A : Type 0} (s : Stream) (o : PictureOptions) (bad : Bool) (stepped : Timestamp → Picture → A) (refused : ℕ → A) (cleared : A) (sums : A → Sums)
     (step-sums : (ts : Timestamp) (p : Picture) → sums (stepped ts p) ≡ p .sums) (refused-sums : (n : ℕ) → sums (refused n) ≡ noSums) (cleared-sums : sums cleared ≡ noSums) where

@@ -1,2 +1,3 @@
 pub mod Call
 pub mod Run
+pub mod Stretch
