@@ -264,8 +264,8 @@ uint32_t mw_adaptive_new(struct mw_adaptive *state, double threshold, uint64_t m
  * width * height. A component is its sum / count, one division in double, or 0 where the count is 0. So the five
  * numbers and the weights give the components and the score again, to the last bit. This makes two stations comparable:
  * where their five numbers for a frame are equal, equal weights give equal components, and equal scores if both have
- * one; where a number differs, that is not rounding: the frame differs, or the frame before it (its planes in the store,
- * or whether there was one of this size), or the settings for edges.
+ * one; where a number differs, that is not rounding: the frame differs, or the frame before it (its planes in the
+ * store, or whether there was one of this size), or the settings for edges.
  *
  * All five are 0 for a frame that has no score (see below), and for a frame that has no pixels. The sum of edges that
  * are off is 0. A refused frame has no sums: a plain call leaves the answer as it was, a feed call makes all five 0.
