@@ -102,21 +102,23 @@ module _ {D A : Type 0} (streamOf : D → Stream) (settings : D → PictureOptio
           by-zero : (b : Bool) → eqb (frameNumber false u w h m) 0 ≡ b → SumsAt t c (sums answer) × Follows (streamOf (stateOf answer)) (stretchAfter t c)
           by-zero true e =
               let goes : hasEarlier t c ≡ goesOn t w h = earlier ∙ ap (λ (b : Bool). not (not b) && goesOn t w h) e in
-              let to : stretchAfter t c ≡ ofSize w h = next ∙ ap (λ (b : Bool). cond (not b) t (ofSize w h)) e in
-              (record {
-                first = λ x. taken-sums e ∙ no-sums (goesOn t w h) (sym goes ∙ x);
-                later = λ x. ap (λ (y : Sums). y .count) (taken-sums e) ∙ all-pixels (goesOn t w h) (sym goes ∙ x) ∙ sym pixels;
-              },
-              subst (λ (z : Stretch). Follows (streamOf (stateOf answer)) z) (sym to) (taken-follows e))
+              let to : stretchAfter t c ≡ ofSize w h = next ∙ ap (λ (b : Bool). cond (not b) t (ofSize w h)) e in (
+                record {
+                  first = λ x. taken-sums e ∙ no-sums (goesOn t w h) (sym goes ∙ x);
+                  later = λ x. ap (λ (y : Sums). y .count) (taken-sums e) ∙ all-pixels (goesOn t w h) (sym goes ∙ x) ∙ sym pixels;
+                },
+                subst (λ (z : Stretch). Follows (streamOf (stateOf answer)) z) (sym to) (taken-follows e),
+              )
           by-zero false e =
               let never : hasEarlier t c ≡ false = earlier ∙ ap (λ (b : Bool). not (not b) && goesOn t w h) e in
               let to : stretchAfter t c ≡ t = next ∙ ap (λ (b : Bool). cond (not b) t (ofSize w h)) e in
-              let kept : streamOf (stateOf answer) ≡ streamOf d = ap (λ (a : A). streamOf (stateOf a)) (left e) ∙ ap streamOf (k .refused-state d _) in
-              (record {
-                first = λ _. ap sums (left e) ∙ q .refused-sums d _;
-                later = λ x. absurd (true≢false (sym x ∙ never));
-              },
-              subst (λ (z : Stretch). Follows (streamOf (stateOf answer)) z) (sym to) (subst (λ (s : Stream). Follows s t) (sym kept) f))
+              let kept : streamOf (stateOf answer) ≡ streamOf d = ap (λ (a : A). streamOf (stateOf a)) (left e) ∙ ap streamOf (k .refused-state d _) in (
+                record {
+                  first = λ _. ap sums (left e) ∙ q .refused-sums d _;
+                  later = λ x. absurd (true≢false (sym x ∙ never));
+                },
+                subst (λ (z : Stretch). Follows (streamOf (stateOf answer)) z) (sym to) (subst (λ (s : Stream). Follows s t) (sym kept) f),
+              )
 
     call-at : (d : D) (c : Call) → Good d → (t : Stretch) → Follows (streamOf d) t
         → SumsAt t c (sums (called d c .answer)) × Follows (streamOf (stateOf (called d c .answer))) (stretchAfter t c)
