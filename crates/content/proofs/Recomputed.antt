@@ -6,7 +6,7 @@ use Prim.Native.Nat.{ℕ}
 use Rattle.score.specs.Scores.{edgesEnabled}
 use Rattle.stream.specs.Stream.{noSums, FromSums}
 use Rattle.frame_call.specs.Call.{Memory, Call, Called}
-use Rattle.frame_call.specs.Stretch.{pixelsOf}
+use Rattle.frame_call.specs.Earlier.{pixelsOf}
 use Rattle.frame_call.proofs.Sums.{none-from, call-from, no-pixels-no-sums, edges-off}
 use Rattle.content.specs.declared.Detector.{Detector}
 use Rattle.content.specs.declared.Answer.{Answer}

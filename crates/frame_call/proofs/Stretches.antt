@@ -16,12 +16,12 @@ use Rattle.frame_call.specs.declared.PictureOptions.{PictureOptions}
 use Rattle.frame_call.specs.declared.Picture.{Picture}
 use Rattle.frame_call.specs.Call.{Memory, Call, luma, bgr, hsv, clear, frameNumber, Outcome, sumsOf, accepted, pictured, answeredBy, outcomeOf}
 use Rattle.frame_call.specs.Run.{isRefused, MadeCall, runFrom}
-use Rattle.frame_call.specs.Stretch.{Stretch, none, ofSize, stretchAfter, goesOn, hasEarlier, pixelsOf, SumsAt, SumsHold}
+use Rattle.frame_call.specs.Earlier.{Ongoing, noneYet, ofSize, ongoingAfter, goesOn, hasEarlier, pixelsOf, SumsAt, SumsHold}
 use Rattle.frame_call.proofs.Runs.{DetectorLaws, if-accepted, if-refused, stays}
 
 -- the stream says which stretch a list has come to
-abbrev Follows : Stream → Stretch → Type 0
-Follows s none = s .«has_previous» ≡ false
+abbrev Follows : Stream → Ongoing → Type 0
+Follows s noneYet = s .«has_previous» ≡ false
 Follows s (ofSize w h) = (s .width ≡ w) × ((s .height ≡ h) × (s .«has_previous» ≡ true))
 
 and-false : (a b : Bool) → a && b && false ≡ false
@@ -35,9 +35,9 @@ and-true true false = refl
 and-true false b = refl
 
 -- a frame is scored exactly if it goes on with the stretch
-scored-is : (s : Stream) (t : Stretch) (w h : ℕ) → Follows s t → isScored s w h ≡ goesOn t w h
+scored-is : (s : Stream) (t : Ongoing) (w h : ℕ) → Follows s t → isScored s w h ≡ goesOn t w h
 unfolding isScored
-scored-is s none w h f = rw f (and-false (eqb (s .width) w) (eqb (s .height) h))
+scored-is s noneYet w h f = rw f (and-false (eqb (s .width) w) (eqb (s .height) h))
 scored-is s (ofSize v g) w h f = rw (f .0, f .1 .0, f .1 .1) (and-true (eqb v w) (eqb g h))
 
 module _ {D A : Type 0} (streamOf : D → Stream) (settings : D → PictureOptions) (bad : D → Bool)
@@ -54,7 +54,7 @@ module _ {D A : Type 0} (streamOf : D → Stream) (settings : D → PictureOptio
     pub clear-stream : (d : D) → Good d → streamOf (stateOf (cleared d)) .«has_previous» ≡ false
 
   module _ (Good : D → Type 0) (k : DetectorLaws streamOf settings bad stepped refused cleared number stateOf Good) (q : SumsLaws Good) where
-    module _ (d : D) (u w h : ℕ) (p : Planes) (ts : Timestamp) (m : Memory) (g : Good d) (t : Stretch) (f : Follows (streamOf d) t) where
+    module _ (d : D) (u w h : ℕ) (p : Planes) (ts : Timestamp) (m : Memory) (g : Good d) (t : Ongoing) (f : Follows (streamOf d) t) where
       abbrev answer : A
       answer = answeredBy (stepped d ts) (refused d) (pictured (streamOf d) (settings d) (bad d) u w h p m .answer)
 
@@ -95,40 +95,40 @@ module _ {D A : Type 0} (streamOf : D → Stream) (settings : D → PictureOptio
       left e = if-refused (streamOf d) (settings d) (bad d) (stepped d ts) (refused d) u w h p m (same-number ∙ e)
 
       frame-at : (c : Call) → hasEarlier t c ≡ (not (not (eqb (frameNumber false u w h m) 0)) && goesOn t w h) → pixelsOf c ≡ w * h
-          → stretchAfter t c ≡ cond (not (eqb (frameNumber false u w h m) 0)) t (ofSize w h)
-          → SumsAt t c (sums answer) × Follows (streamOf (stateOf answer)) (stretchAfter t c)
+          → ongoingAfter t c ≡ cond (not (eqb (frameNumber false u w h m) 0)) t (ofSize w h)
+          → SumsAt t c (sums answer) × Follows (streamOf (stateOf answer)) (ongoingAfter t c)
       frame-at c earlier pixels next = by-zero (eqb (frameNumber false u w h m) 0) refl
         where
-          by-zero : (b : Bool) → eqb (frameNumber false u w h m) 0 ≡ b → SumsAt t c (sums answer) × Follows (streamOf (stateOf answer)) (stretchAfter t c)
+          by-zero : (b : Bool) → eqb (frameNumber false u w h m) 0 ≡ b → SumsAt t c (sums answer) × Follows (streamOf (stateOf answer)) (ongoingAfter t c)
           by-zero true e =
               let goes : hasEarlier t c ≡ goesOn t w h = earlier ∙ ap (λ (b : Bool). not (not b) && goesOn t w h) e in
-              let to : stretchAfter t c ≡ ofSize w h = next ∙ ap (λ (b : Bool). cond (not b) t (ofSize w h)) e in (
+              let to : ongoingAfter t c ≡ ofSize w h = next ∙ ap (λ (b : Bool). cond (not b) t (ofSize w h)) e in (
                 record {
                   first = λ x. taken-sums e ∙ no-sums (goesOn t w h) (sym goes ∙ x);
                   later = λ x. ap (λ (y : Sums). y .count) (taken-sums e) ∙ all-pixels (goesOn t w h) (sym goes ∙ x) ∙ sym pixels;
                 },
-                subst (λ (z : Stretch). Follows (streamOf (stateOf answer)) z) (sym to) (taken-follows e),
+                subst (λ (z : Ongoing). Follows (streamOf (stateOf answer)) z) (sym to) (taken-follows e),
               )
           by-zero false e =
               let never : hasEarlier t c ≡ false = earlier ∙ ap (λ (b : Bool). not (not b) && goesOn t w h) e in
-              let to : stretchAfter t c ≡ t = next ∙ ap (λ (b : Bool). cond (not b) t (ofSize w h)) e in
+              let to : ongoingAfter t c ≡ t = next ∙ ap (λ (b : Bool). cond (not b) t (ofSize w h)) e in
               let kept : streamOf (stateOf answer) ≡ streamOf d = ap (λ (a : A). streamOf (stateOf a)) (left e) ∙ ap streamOf (k .refused-state d _) in (
                 record {
                   first = λ _. ap sums (left e) ∙ q .refused-sums d _;
                   later = λ x. absurd (true≢false (sym x ∙ never));
                 },
-                subst (λ (z : Stretch). Follows (streamOf (stateOf answer)) z) (sym to) (subst (λ (s : Stream). Follows s t) (sym kept) f),
+                subst (λ (z : Ongoing). Follows (streamOf (stateOf answer)) z) (sym to) (subst (λ (s : Stream). Follows s t) (sym kept) f),
               )
 
-    call-at : (d : D) (c : Call) → Good d → (t : Stretch) → Follows (streamOf d) t
-        → SumsAt t c (sums (called d c .answer)) × Follows (streamOf (stateOf (called d c .answer))) (stretchAfter t c)
+    call-at : (d : D) (c : Call) → Good d → (t : Ongoing) → Follows (streamOf d) t
+        → SumsAt t c (sums (called d c .answer)) × Follows (streamOf (stateOf (called d c .answer))) (ongoingAfter t c)
     call-at d (luma plane w h stride ts m) g t f = frame-at d _ w h _ ts m g t f (luma plane w h stride ts m) refl refl refl
     call-at d (bgr pixels w h stride ts m) g t f = frame-at d _ w h _ ts m g t f (bgr pixels w h stride ts m) refl refl refl
     call-at d (hsv hs ss vs w h stride ts m) g t f = frame-at d _ w h _ ts m g t f (hsv hs ss vs w h stride ts m) refl refl refl
     call-at d clear g t f = (record { first = λ _. q .clear-sums d; later = λ x. absurd (true≢false (sym x)) }, q .clear-stream d g)
 
-    pub sums-hold : (d : D) → Good d → (t : Stretch) → Follows (streamOf d) t → (cs : List Call) → SumsHold sums t (runFrom called stateOf d cs)
+    pub sums-hold : (d : D) → Good d → (t : Ongoing) → Follows (streamOf d) t → (cs : List Call) → SumsHold sums t (runFrom called stateOf d cs)
     sums-hold d g t f [] = tt
     sums-hold d g t f (c ∷ cs) =
         let a = call-at d c g t f in
-        (a .0, sums-hold (stateOf (called d c .answer)) (stays streamOf settings bad stepped refused cleared number stateOf Good k d c g) (stretchAfter t c) (a .1) cs)
+        (a .0, sums-hold (stateOf (called d c .answer)) (stays streamOf settings bad stepped refused cleared number stateOf Good k d c g) (ongoingAfter t c) (a .1) cs)

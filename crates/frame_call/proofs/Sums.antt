@@ -23,7 +23,7 @@ use Rattle.stream.specs.Stream.{noSums, componentsOf, componentsShown, isScored
 use Rattle.frame_call.specs.declared.PictureOptions.{PictureOptions}
 use Rattle.frame_call.specs.declared.Picture.{Picture}
 use Rattle.frame_call.specs.Call.{Memory, Call, luma, bgr, hsv, clear, frameNumber, sumsOf, accepted, pictured, answeredBy, outcomeOf}
-use Rattle.frame_call.specs.Stretch.{pixelsOf}
+use Rattle.frame_call.specs.Earlier.{pixelsOf}
 use Rattle.frame_call.proofs.Filled.{Sized, luma-sized, bgr-sized, hsv-sized}
 use Rattle.frame_call.proofs.Runs.{if-accepted, if-refused}
 

@@ -1,3 +1,3 @@
 pub mod Call
 pub mod Run
-pub mod Stretch
+pub mod Earlier

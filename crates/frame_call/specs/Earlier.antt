@@ -11,33 +11,33 @@ use Rattle.frame_call.specs.Call.{Call, byCall}
 use Rattle.frame_call.specs.Run.{isRefused, MadeCall}
 
 -- the stretch that a list of calls has come to: none at the start and after `clear`, otherwise one of frames of this size
-pub data Stretch : Type 0 where
-  none : Stretch
-  ofSize : (width height : ℕ) → Stretch
+pub data Ongoing : Type 0 where
+  noneYet : Ongoing
+  ofSize : (width height : ℕ) → Ongoing
 
 -- the stretch after a call: a refused call leaves it, a frame is in one of its own size, and `clear` ends it
-abbrev pub stretchAfter : Stretch → Call → Stretch
-stretchAfter t c = cond (isRefused c) t (byCall (λ u w h p ts m. ofSize w h) none c)
+abbrev pub ongoingAfter : Ongoing → Call → Ongoing
+ongoingAfter t c = cond (isRefused c) t (byCall (λ u w h p ts m. ofSize w h) noneYet c)
 
 -- a frame of this size goes on with this stretch
-abbrev pub goesOn : Stretch → (width height : ℕ) → Bool
-goesOn none w h = false
+abbrev pub goesOn : Ongoing → (width height : ℕ) → Bool
+goesOn noneYet w h = false
 goesOn (ofSize v g) w h = eqb v w && eqb g h
 
 -- the call is an accepted frame that has an earlier frame in its stretch
-abbrev pub hasEarlier : Stretch → Call → Bool
+abbrev pub hasEarlier : Ongoing → Call → Bool
 hasEarlier t c = not (isRefused c) && byCall (λ u w h p ts m. goesOn t w h) false c
 
 -- how many pixels the frame of a call has; `clear` has no frame
 abbrev pub pixelsOf : Call → ℕ
 pixelsOf c = byCall (λ u w h p ts m. w * h) 0 c
 
--- what the sums of a call's answer are by its place in the list: none without an earlier frame in the stretch; with one, over all pixels
-pub record SumsAt (t : Stretch) (c : Call) (sums : Sums) : Type 0 where
+-- what the sums of a call's answer are by its place in the list: all 0 without an earlier frame in the stretch; with one, over all pixels of the frame
+pub record SumsAt (t : Ongoing) (c : Call) (sums : Sums) : Type 0 where
   pub first : hasEarlier t c ≡ false → sums ≡ noSums
   pub later : hasEarlier t c ≡ true → sums .count ≡ pixelsOf c
 
 -- the same of each call of a list, from this stretch on
-abbrev pub SumsHold : {A : Type 0} → (sums : A → Sums) → Stretch → List (MadeCall A) → Type 0
+abbrev pub SumsHold : {A : Type 0} → (sums : A → Sums) → Ongoing → List (MadeCall A) → Type 0
 SumsHold sums t [] = Unit {0}
-SumsHold sums t (x ∷ xs) = SumsAt t (x .call) (sums (x .outcome .answer)) × SumsHold sums (stretchAfter t (x .call)) xs
+SumsHold sums t (x ∷ xs) = SumsAt t (x .call) (sums (x .outcome .answer)) × SumsHold sums (ongoingAfter t (x .call)) xs
