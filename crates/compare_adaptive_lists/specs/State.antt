@@ -6,12 +6,11 @@ use Prim.Native.Nat.{ℕ, _+_, _*_, _/_, _%_}
 use lib.Dec.{eqb}
 use lib.Ieee.{Float, nan, binary64, div, sub}
 use Rattle.laws.specs.Floats.{float}
-use Rattle.stream.specs.declared.Stream.{Stream}
 use Rattle.window.specs.declared.Window.{Window}
 use Rattle.adaptive.specs.declared.Options.{Options}
 use Rattle.adaptive.specs.declared.Detector.{Detector}
 use Rattle.adaptive.specs.Options.{options}
-use Rattle.compare_lists.specs.Records.{byteOf, thresholdOf, weightsOf, kernelOf, minimumOf, initialCut, isForeign}
+use Rattle.compare_lists.specs.Records.{byteOf, thresholdOf, weightsOf, kernelOf, minimumOf, initialCut, isForeign, tooHigh}
 
 -- the window that is not v + 1, by v: 0 for 0, 65 for 1, 2^32 - 1 for 2, 64 for 3, otherwise v % 4 + 1
 unfoldable pub oddWindow : ℕ → ℕ
@@ -66,10 +65,6 @@ counting w n =
       «last_target_score» = w .«last_target_score»;
     }
 
--- a height of 4,097
-abbrev pub tooHigh : Stream → Stream
-tooHigh s = record { «has_previous» = s .«has_previous»; «last_score» = s .«last_score»; «last_components» = s .«last_components»; width = s .width; height = 4097 }
-
 -- a bad record: for 0 a count of 2 × window + 2, for 1 a height of 4,097, otherwise settings that are refused
 unfoldable pub spoiledBy : Detector → ℕ → Detector
 spoiledBy d how =
@@ -84,7 +79,3 @@ spoiledBy d how =
 -- the state that call i is handed: where r[13] % 32 is 1, a bad record by r[14] % 6
 unfoldable pub givenTo : Detector → List ℕ → ℕ → Detector
 givenTo d s i = cond (isForeign s i) (spoiledBy d (byteOf s i 14 % 6)) d
-
--- the state after call i, which returned `next`: the list goes on from the state before it where a bad record was handed in
-unfoldable pub keptAfter : (d next : Detector) → List ℕ → ℕ → Detector
-keptAfter d next s i = cond (isForeign s i) d next

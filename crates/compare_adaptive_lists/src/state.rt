@@ -1,6 +1,7 @@
 // Settings and state records of an adaptive detector from the bytes of a list.
 ghost use mathlib.Core.Path.{_≡_};
-ghost use Rattle.compare_adaptive_lists.specs.State.{windowOf, settingsOf, isClear, refusedBy, spoiledBy, givenTo, keptAfter};
+ghost use Rattle.compare_lists.specs.Records.{keptAfter};
+ghost use Rattle.compare_adaptive_lists.specs.State.{windowOf, settingsOf, isClear, refusedBy, spoiledBy, givenTo};
 use adaptive::Answer;
 use adaptive::Detector;
 use adaptive::Options;

@@ -10,11 +10,10 @@ use Rattle.timestamp.specs.declared.MaybeTimestamp.the-variants.{None}
 use Rattle.filter.specs.declared.Filter.{Filter}
 use Rattle.filter.specs.declared.FilterMode.{FilterMode}
 use Rattle.filter.specs.declared.FilterMode.the-variants.{Suppress, Merge}
-use Rattle.stream.specs.declared.Stream.{Stream}
 use Rattle.content.specs.declared.Options.{Options}
 use Rattle.content.specs.declared.Detector.{Detector}
 use Rattle.content.specs.Options.{options}
-use Rattle.compare_lists.specs.Records.{byteOf, thresholdOf, weightsOf, kernelOf, minimumOf, initialCut, isForeign}
+use Rattle.compare_lists.specs.Records.{byteOf, thresholdOf, weightsOf, kernelOf, minimumOf, initialCut, isForeign, tooHigh}
 
 -- the filter mode of a byte b: Suppress where it is even, otherwise Merge
 unfoldable pub modeOf : ℕ → FilterMode
@@ -36,10 +35,6 @@ settingsOf s =
 abbrev pub triggeredOf : Filter → Filter
 triggeredOf f = record { «last_above» = f .«last_above»; «merge_enabled» = f .«merge_enabled»; «merge_triggered» = true; «merge_start» = None }
 
--- a height of 4,097
-abbrev pub tooHigh : Stream → Stream
-tooHigh s = record { «has_previous» = s .«has_previous»; «last_score» = s .«last_score»; «last_components» = s .«last_components»; width = s .width; height = 4097 }
-
 -- a threshold that is NaN
 abbrev pub withoutThreshold : Options → Options
 withoutThreshold o = options nan (o .«min_duration») (o .weights) (o .«filter_mode») (o .«kernel_size») (o .«initial_cut»)
@@ -58,7 +53,3 @@ spoiledBy d how =
 -- the state that call i is handed: where r[13] % 32 is 1, a bad record by r[14] % 3
 unfoldable pub givenTo : Detector → List ℕ → ℕ → Detector
 givenTo d s i = cond (isForeign s i) (spoiledBy d (byteOf s i 14 % 3)) d
-
--- the state after call i, which returned `next`: the list goes on from the state before it where a bad record was handed in
-unfoldable pub keptAfter : (d next : Detector) → List ℕ → ℕ → Detector
-keptAfter d next s i = cond (isForeign s i) d next

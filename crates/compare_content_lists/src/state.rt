@@ -1,6 +1,7 @@
 // Settings and state records of a content detector from the bytes of a list.
 ghost use mathlib.Core.Path.{_≡_};
-ghost use Rattle.compare_content_lists.specs.State.{modeOf, settingsOf, triggeredOf, spoiledBy, givenTo, keptAfter};
+ghost use Rattle.compare_lists.specs.Records.{keptAfter};
+ghost use Rattle.compare_content_lists.specs.State.{modeOf, settingsOf, triggeredOf, spoiledBy, givenTo};
 use compare_lists::input;
 use content::Answer;
 use content::Detector;

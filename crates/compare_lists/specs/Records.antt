@@ -15,6 +15,7 @@ use Rattle.score.specs.Scores.{components, defaultWeights, lumaOnlyWeights}
 use Rattle.score.specs.declared.Components.{Components}
 use Rattle.score.specs.declared.KernelSize.{KernelSize}
 use Rattle.score.specs.declared.KernelSize.the-variants.{Auto, Set}
+use Rattle.stream.specs.declared.Stream.{Stream}
 use Rattle.compare_lists.specs.declared.input.Size.{Size}
 
 -- byte k of record i, 16 bytes each; 0 where there is none
@@ -144,6 +145,14 @@ stampOf clock = saturatingSub (record { micros = pos 9223372036854775807 }) cloc
 -- a bad record is handed in where r[13] % 32 is 1
 abbrev pub isForeign : List ℕ → ℕ → Bool
 isForeign s i = eqb (byteOf s i 13 % 32) 1
+
+-- a stream with a height of 4,097, for a bad record
+abbrev pub tooHigh : Stream → Stream
+tooHigh s = record { «has_previous» = s .«has_previous»; «last_score» = s .«last_score»; «last_components» = s .«last_components»; width = s .width; height = 4097 }
+
+-- the state after call i, which returned `next`: the list goes on from the state before it where a bad record was handed in
+unfoldable pub keptAfter : {D : Type 0} → (d next : D) → List ℕ → ℕ → D
+keptAfter d next s i = cond (isForeign s i) d next
 
 -- a stamp as it is written down: plus 2^63, which no stamp is below
 unfoldable pub raisedOf : Timestamp → ℕ

@@ -24,21 +24,21 @@ abbrev Follows : Stream → Ongoing → Type 0
 Follows s noneYet = s .«has_previous» ≡ false
 Follows s (ofSize w h) = (s .width ≡ w) × ((s .height ≡ h) × (s .«has_previous» ≡ true))
 
-and-false : (a b : Bool) → a && b && false ≡ false
-and-false true true = refl
-and-false true false = refl
-and-false false b = refl
+and-with-false : (a b : Bool) → a && b && false ≡ false
+and-with-false true true = refl
+and-with-false true false = refl
+and-with-false false b = refl
 
-and-true : (a b : Bool) → a && b && true ≡ a && b
-and-true true true = refl
-and-true true false = refl
-and-true false b = refl
+and-with-true : (a b : Bool) → a && b && true ≡ a && b
+and-with-true true true = refl
+and-with-true true false = refl
+and-with-true false b = refl
 
 -- a frame is scored exactly if it goes on with the stretch
 scored-is : (s : Stream) (t : Ongoing) (w h : ℕ) → Follows s t → isScored s w h ≡ goesOn t w h
 unfolding isScored
-scored-is s noneYet w h f = rw f (and-false (eqb (s .width) w) (eqb (s .height) h))
-scored-is s (ofSize v g) w h f = rw (f .0, f .1 .0, f .1 .1) (and-true (eqb v w) (eqb g h))
+scored-is s noneYet w h f = rw f (and-with-false (eqb (s .width) w) (eqb (s .height) h))
+scored-is s (ofSize v g) w h f = rw (f .0, f .1 .0, f .1 .1) (and-with-true (eqb v w) (eqb g h))
 
 module _ {D A : Type 0} (streamOf : D → Stream) (settings : D → PictureOptions) (bad : D → Bool)
     (stepped : D → Timestamp → Picture → A) (refused : D → ℕ → A) (cleared : D → A) (number : A → ℕ) (stateOf : A → D) (sums : A → Sums) where

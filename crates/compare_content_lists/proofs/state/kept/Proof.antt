@@ -1,5 +1,5 @@
 -- `state::kept` meets its contract: each return is a case of the definition's test.
-use Rattle.compare_content_lists.specs.State.{keptAfter}
+use Rattle.compare_lists.specs.Records.{keptAfter}
 use borrow.Author.Needs.{needs}
 use Rattle.compare_content_lists.proofs.state.kept.Statement.{statement}
 use Rattle.compare_content_lists.proofs.state.kept.Tie as tie
