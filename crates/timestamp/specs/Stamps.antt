@@ -15,6 +15,10 @@ least = negsuc 9223372036854775807
 unfoldable pub durationSince : Timestamp → Timestamp → Since
 durationSince ts earlier = cond (leZ (earlier .micros) (ts .micros)) (Micros (natAbs (ts .micros -ℤ earlier .micros))) Earlier
 
+-- the distance of two whole numbers: their difference without its sign. Of two stamps it is at most 2^64 - 1 (RULES 1.6).
+unfoldable pub distance : ℤ → ℤ → ℕ
+distance a b = natAbs (a -ℤ b)
+
 -- `saturating_sub_duration`: the stamp less the duration; it stops at -2^63
 unfoldable pub saturatingSub : Timestamp → ℕ → Timestamp
 saturatingSub ts d = record { micros = cond (leZ least (ts .micros -ℤ pos d)) (ts .micros -ℤ pos d) least }

@@ -1,7 +1,7 @@
 // Stamps: microseconds as an i64. Durations: microseconds as a u64.
 ghost use mathlib.Core.Path.{_≡_};
 ghost use lib.IntN.{pos, _+ℤ_};
-ghost use Rattle.timestamp.specs.Stamps.{durationSince, saturatingSub};
+ghost use Rattle.timestamp.specs.Stamps.{distance, durationSince, saturatingSub};
 
 // A stamp. It is passed whole, so that a proof above this crate reads the number and not its bits.
 pub struct Timestamp {
@@ -53,6 +53,19 @@ pub fn duration_since(ts: Timestamp, earlier: Timestamp) -> Since
         Since::Micros(a - b)
     } else {
         Since::Earlier
+    }
+}
+
+// How far two stamps are apart, whichever is the later: up to 2^64 - 1 (RULES 1.6).
+pub fn distance(x: Timestamp, y: Timestamp) -> u64
+    ensures { λ r. ⌜ r ≡ distance (x .micros) (y .micros) ⌝ }
+{
+    let a = raised(x.micros);
+    let b = raised(y.micros);
+    if b <= a {
+        a - b
+    } else {
+        b - a
     }
 }
 
