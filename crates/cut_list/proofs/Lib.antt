@@ -2,3 +2,4 @@
 pub mod Tests
 pub mod Order
 pub mod Spans
+pub mod Brought
