@@ -16,8 +16,11 @@ use Rattle.laws.proofs.Bools.{or-false}
 use Rattle.cut_list.specs.declared.CutList.{CutList}
 use Rattle.cut_list.specs.Record.{places, Held, held, cutList, stampsOf, follows, inOrder, isBad}
 use Rattle.cut_list.specs.Change.{Turn, turned, same, tooClose, anyOf, inserted, addNumber, withStamp, added, removeNumber, withoutStamp, removed, listNumber, withoutStamps, emptied}
-use Rattle.cut_list.specs.Find.{howMany}
+use Rattle.timestamp.specs.declared.Timestamp.{Timestamp}
+use Rattle.timestamp.specs.declared.MaybeTimestamp.the-variants.{None, At}
+use Rattle.cut_list.specs.Find.{nearestOf, nearestIn, spanIn, clipOf, clipIn}
 use Rattle.cut_list.proofs.Order.{before, earlierOk, laterOk, fits, inserted-at, stands, left-at, howMany-le}
+use Rattle.cut_list.proofs.Spans.{span-some, span-none}
 
 -- a list that is not bad
 pub record Sound (l : CutList) (m : List ℤ) : Type 0 where
@@ -60,6 +63,49 @@ pub empty-done : (l : CutList) (m : List ℤ) → isBad (held l m) ≡ false
 unfolding emptied listNumber withoutStamps
 empty-done l m e = rw e
 
+-- ---- reading
+
+pub clip-bad : (l : CutList) (m : List ℤ) (t : ℤ) → isBad (held l m) ≡ true → record { number = 15; clip = 0 } ≡ clipIn (held l m) t
+unfolding clipIn listNumber
+clip-bad l m t e = rw e
+
+pub clip-done : (l : CutList) (m : List ℤ) (t : ℤ) (n : ℕ) → isBad (held l m) ≡ false → n ≡ clipOf t (take (l .count) m)
+    → record { number = 0; clip = n } ≡ clipIn (held l m) t
+unfolding clipIn listNumber
+clip-done l m t n e f = rw (e, f)
+
+pub nearest-bad : (l : CutList) (m : List ℤ) (t : ℤ) → isBad (held l m) ≡ true → record { number = 15; nearest = None } ≡ nearestIn (held l m) t
+unfolding nearestIn listNumber
+nearest-bad l m t e = rw e
+
+pub nearest-none : (l : CutList) (m : List ℤ) (t : ℤ) → isBad (held l m) ≡ false → l .count ≡ 0 → record { number = 0; nearest = None } ≡ nearestIn (held l m) t
+unfolding nearestIn listNumber nearestOf
+nearest-none l m t e f = rw (e, f)
+
+pub nearest-done : (l : CutList) (m : List ℤ) (t : ℤ) (s : Timestamp) → isBad (held l m) ≡ false → At s ≡ nearestOf t (take (l .count) m)
+    → record { number = 0; nearest = At s } ≡ nearestIn (held l m) t
+unfolding nearestIn listNumber
+nearest-done l m t s e f = rw (e, f)
+
+pub span-bad : (l : CutList) (m : List ℤ) (a b : ℤ) → isBad (held l m) ≡ true → record { number = 15; first = 0; count = 0 } ≡ spanIn (held l m) a b
+unfolding spanIn listNumber
+span-bad l m a b e = rw e
+
+-- p stamps are before a, and q at or before b
+module _ (l : CutList) (m : List ℤ) (a b : ℤ) (p q : ℕ) (good : isBad (held l m) ≡ false) (as-p : p ≡ before a (take (l .count) m))
+    (as-q : q ≡ clipOf b (take (l .count) m)) where
+  pub span-done : p < q → record { number = 0; first = p; count = q - p } ≡ spanIn (held l m) a b
+  unfolding spanIn listNumber
+  span-done h =
+      let w = span-some (l .«min_duration») a b (take (l .count) m) (sound l m good .ordered) (omega (arith, as-p, as-q)) in
+      rw (good, as-p, as-q, w .start, w .number)
+
+  pub span-empty : q ≤ p → record { number = 0; first = 0; count = 0 } ≡ spanIn (held l m) a b
+  unfolding spanIn listNumber
+  span-empty h =
+      let w = span-none a b (take (l .count) m) (omega (arith, as-p, as-q)) in
+      rw (good, w .start, w .number)
+
 -- ---- adding and removing: p is how many stamps of the list are before t
 
 module _ (l : CutList) (m : List ℤ) (t : ℤ) (good : isBad (held l m) ≡ false) where
@@ -87,6 +133,10 @@ module _ (l : CutList) (m : List ℤ) (t : ℤ) (good : isBad (held l m) ≡ fal
 
   abbrev pub later-follows : Bool
   later-follows = cond (ltb place (l .count)) (follows d t (getD m place (pos 0))) true
+
+  pub tests-are : (p : ℕ) → p ≡ place → (a b : Bool) → a ≡ cond (eqb p 0) true (follows d (getD m (p - 1) (pos 0)) t)
+      → b ≡ cond (ltb p (l .count)) (follows d t (getD m p (pos 0))) true → (follows-earlier && later-follows) ≡ (a && b)
+  tests-are p e a b f g = rw (f, g, e) refl
 
   earlier-is : (p : ℕ) → p ≤ l .count → earlierOk d t xs p ≡ cond (eqb p 0) true (follows d (getD m (p - 1) (pos 0)) t)
   earlier-is zero h = refl

@@ -1,82 +1,102 @@
+-- `cut_list::add` meets its contract. Assumes nothing.
+use Prim.Native.Nat.{_≤_}
+use native.Mathlib.Omega.{arith}
+use mathlib.Core.Path.{_≡_, sym, _∙_}
+use mathlib.Core.Bool.{Bool, true, false, not, _&&_}
 use borrow.Author.Needs.{needs}
+use borrow.Author.Tests.{not-true, not-false}
+use lib.IntN.{ℤ}
+use Rattle.cut_list.specs.Record.{held, isBad}
+use Rattle.cut_list.proofs.Brought.{Sound, sound, place, place-le, follows-earlier, later-follows, tests-are, add-bad, add-close, add-full, add-done}
 use Rattle.cut_list.proofs.add.Statement.{statement}
 use Rattle.cut_list.proofs.add.Tie as tie
-use Rattle.cut_list.proofs.add.Reads as reads
-use Rattle.cut_list.proofs.add.Lts as lts
-use Rattle.cut_list.proofs.count_before.Reads as count-before-reads
-use Rattle.cut_list.proofs.follows_earlier.Reads as follows-earlier-reads
-use Rattle.cut_list.proofs.insert.Reads as insert-reads
-use Rattle.cut_list.proofs.is_bad.Reads as is-bad-reads
-use Rattle.cut_list.proofs.later_follows.Reads as later-follows-reads
-use Rattle.cut_list.proofs.refused.Reads as refused-reads
 
--- src/lib.rt:216:8
 is-bad-requires : tie.Need-is-bad-requires
 is-bad-requires c κs = search needs
 
--- src/lib.rt:217:9
 refused-requires : tie.Need-refused-requires
 refused-requires c κs = search needs
 
--- src/lib.rt:217:9
 same-length : tie.Need-same-length
 same-length c = search needs
 
--- src/lib.rt:217:9
 returns : tie.Need-returns
-returns c = ?
+returns c = rw (c .refused .ensures .0, c .refused .ensures .1) (add-bad _ _ _ (sym (c .before .before .is-bad .ensures) ∙ c .before .if1 .taken))
 
--- src/lib.rt:219:9
+-- past the test for 15
+good : (c : tie.Else1) → isBad (held (c .before .before .before .args .list) (c .before .before .before .args .memory .now)) ≡ false
+good c = sym (c .before .is-bad .ensures) ∙ c .if1 .left
+
+room : (c : tie.Else1) → Sound (c .before .before .before .args .list) (c .before .before .before .args .memory .now)
+room c = sound _ _ (good c)
+
 count-before-requires : tie.Need-count-before-requires
-count-before-requires c κs = ?
+count-before-requires c κs = omega (arith, room (c .before) .few, room (c .before) .room)
 
--- src/lib.rt:220:9
+-- the place of the stamp
+abbrev stamp : tie.Else1 → ℤ
+stamp c = c .before .before .before .args .ts .micros
+
+at-place : (c : tie.After-count-before) → c .count-before .result ≡ place _ _ (stamp (c .before .before)) (good (c .before .before))
+at-place c = c .count-before .ensures
+
+inside : (c : tie.After-count-before) → c .count-before .result ≤ c .before .before .before .before .before .args .list .count
+inside c = omega (arith, at-place c, place-le _ _ (stamp (c .before .before)) (good (c .before .before)))
+
 follows-earlier-requires : tie.Need-follows-earlier-requires
-follows-earlier-requires c κs = ?
+follows-earlier-requires c κs = let r = room (c .before .before .before) in omega (arith, inside (c .before), r .few, r .room)
 
--- src/lib.rt:221:9
 later-follows-requires : tie.Need-later-follows-requires
-later-follows-requires c κs = ?
+later-follows-requires c κs = let r = room (c .before .before .before .before .before) in omega (arith, r .few, r .room)
 
--- src/lib.rt:223:9
+-- the two tests, as the law has them
+abbrev past : tie.After-later-follows → tie.Else1
+past c = c .before .before .before .before .before .before
+
+both : (c : tie.After-later-follows) → (follows-earlier _ _ (stamp (past c)) (good (past c)) && later-follows _ _ (stamp (past c)) (good (past c))) ≡ (c .before .before .follows-earlier .result && c .later-follows .result)
+both c =
+    let n = c .before .before .before .before in
+    tests-are _ _ _ (good (past c)) _ (at-place n) _ _ (c .before .before .follows-earlier .ensures) (c .later-follows .ensures)
+
 refused-requires-2 : tie.Need-refused-requires-2
 refused-requires-2 c κs = search needs
 
--- src/lib.rt:223:9
 same-length-2 : tie.Need-same-length-2
 same-length-2 c = search needs
 
--- src/lib.rt:223:9
 returns-2 : tie.Need-returns-2
-returns-2 c = ?
+returns-2 c =
+    let l = c .before .before in
+    rw (c .refused2 .ensures .0, c .refused2 .ensures .1) (add-close _ _ _ (good (past l)) (both l ∙ not-true _ (c .before .if2 .taken)))
 
--- src/lib.rt:226:9
 refused-requires-3 : tie.Need-refused-requires-3
 refused-requires-3 c κs = search needs
 
--- src/lib.rt:226:9
 same-length-3 : tie.Need-same-length-3
 same-length-3 c = search needs
 
--- src/lib.rt:226:9
 returns-3 : tie.Need-returns-3
-returns-3 c = ?
+returns-3 c =
+    let l = c .before .before .before .before in
+    rw (c .refused3 .ensures .0, c .refused3 .ensures .1) (add-full _ _ _ (good (past l)) (both l ∙ not-false _ (c .before .before .before .if2 .left)) (c .before .if3 .taken))
 
--- src/lib.rt:228:5
 insert-requires : tie.Need-insert-requires
-insert-requires c κs = ?
+insert-requires c κs =
+    let l = c .before .before .before .before in
+    let r = room (past l) in
+    (inside (l .before .before .before .before), omega (arith, r .few, r .room, c .before .if3 .left))
 
--- src/lib.rt:233:20
 add-t21 : tie.Need-add-t21
-add-t21 c = ?
+add-t21 c = let r = room (past (c .before .before .before .before .before .before .before)) in omega (arith, r .few)
 
--- src/lib.rt:213:1
 same-length-4 : tie.Need-same-length-4
 same-length-4 c = search needs
 
--- src/lib.rt:213:1
 returns-4 : tie.Need-returns-4
-returns-4 c = ?
+returns-4 c =
+    let l = c .before .before .before .before .before .before .before in
+    rw (c .before .before .insert .ensures, at-place (l .before .before .before .before))
+    (add-done _ _ _ (good (past l)) (both l ∙ not-false _ (c .before .before .before .before .before .before .if2 .left)) (c .before .before .before .before .if3 .left))
 
 pub add-spec : {M : Type 1} → statement M
 add-spec =

@@ -1,39 +1,36 @@
+-- `cut_list::empty` meets its contract. Assumes nothing.
+use native.Mathlib.Omega.{arith}
+use mathlib.Core.Path.{_≡_, sym, _∙_}
+use mathlib.Core.Bool.{true, false}
 use borrow.Author.Needs.{needs}
+use Rattle.cut_list.specs.Record.{held, isBad}
+use Rattle.cut_list.proofs.Brought.{Sound, sound, empty-bad, empty-done}
 use Rattle.cut_list.proofs.empty.Statement.{statement}
 use Rattle.cut_list.proofs.empty.Tie as tie
-use Rattle.cut_list.proofs.empty.Reads as reads
-use Rattle.cut_list.proofs.empty.Lts as lts
-use Rattle.cut_list.proofs.is_bad.Reads as is-bad-reads
-use Rattle.cut_list.proofs.refused.Reads as refused-reads
-use Rattle.cut_list.proofs.wipe.Reads as wipe-reads
 
--- src/lib.rt:301:8
 is-bad-requires : tie.Need-is-bad-requires
 is-bad-requires c κs = search needs
 
--- src/lib.rt:302:9
 refused-requires : tie.Need-refused-requires
 refused-requires c κs = search needs
 
--- src/lib.rt:302:9
 same-length : tie.Need-same-length
 same-length c = search needs
 
--- src/lib.rt:302:9
 returns : tie.Need-returns
-returns c = ?
+returns c = rw (c .refused .ensures .0, c .refused .ensures .1) (empty-bad _ _ (sym (c .before .before .is-bad .ensures) ∙ c .before .if1 .taken))
 
--- src/lib.rt:304:5
+good : (c : tie.Else1) → isBad (held (c .before .before .before .args .list) (c .before .before .before .args .memory .now)) ≡ false
+good c = sym (c .before .is-bad .ensures) ∙ c .if1 .left
+
 wipe-requires : tie.Need-wipe-requires
-wipe-requires c κs = ?
+wipe-requires c κs = let s = sound _ _ (good (c .before)) in omega (arith, s .few, s .room)
 
--- src/lib.rt:298:1
 same-length-2 : tie.Need-same-length-2
 same-length-2 c = search needs
 
--- src/lib.rt:298:1
 returns-2 : tie.Need-returns-2
-returns-2 c = ?
+returns-2 c = rw (c .before .wipe .ensures) (empty-done _ _ (good (c .before .before .before)))
 
 pub empty-spec : {M : Type 1} → statement M
 empty-spec =
