@@ -181,6 +181,9 @@ module _ (l : CutList) (m : List ℤ) (t : ℤ) (good : isBad (held l m) ≡ fal
   abbrev pub there : Bool
   there = cond (ltb place (l .count)) (same t (getD m place (pos 0))) false
 
+  pub there-is : (p : ℕ) → p ≡ place → (a : Bool) → a ≡ cond (ltb p (l .count)) (same t (getD m p (pos 0))) false → there ≡ a
+  there-is p e a f = rw (f, e) refl
+
   present : anyOf (same t) xs ≡ there
   present = stands d t xs (is-sound .ordered) ∙ rw size (by (ltb place (l .count)) refl)
     where
