@@ -1,6 +1,6 @@
--- What a walk over the first stamps of a memory knows: how many have a property, whether they are in order, which is nearest. One more stamp each.
+-- What a walk over the stamps of a memory knows of the first i: how many have a property, whether they are in order, which is nearest.
 use Prim.Native.Nat.{ℕ, zero, suc, _+_, _-_, _<_, _≤_}
-use native.Mathlib.Nat.{le-of-suc-le-suc, not-suc-le-zero, zero-add}
+use native.Mathlib.Nat.{not-suc-le-zero}
 use native.Mathlib.Omega.{arith}
 use native.Mathlib.Decide.{ℕ-discrete}
 use mathlib.Core.Path.{_≡_, refl, sym, ap, _∙_}
@@ -66,18 +66,6 @@ counted-all {p} {m} {i} {n} {k} C a b = let e : k ≡ i = omega arith in rw e (C
 
 -- ---- in order
 
-pub inOrder-none : (d : ℕ) → inOrder d [] ≡ true
-unfolding inOrder
-inOrder-none d = refl
-
-pub inOrder-one : (d : ℕ) (x : ℤ) → inOrder d (x ∷ []) ≡ true
-unfolding inOrder
-inOrder-one d x = refl
-
-pub inOrder-two : (d : ℕ) (x y : ℤ) (ys : List ℤ) → inOrder d (x ∷ y ∷ ys) ≡ (follows d x y && inOrder d (y ∷ ys))
-unfolding inOrder
-inOrder-two d x y ys = refl
-
 both-true : (a b : Bool) → a ≡ true → b ≡ true → (a && b) ≡ true
 both-true a b e f = rw (e, f)
 
@@ -88,10 +76,6 @@ left-true false b e = e
 right-true : (a b : Bool) → (a && b) ≡ true → b ≡ true
 right-true true b e = e
 right-true false b e = absurd (false≢true e)
-
-right-false : (a b : Bool) → b ≡ false → (a && b) ≡ false
-right-false true b e = e
-right-false false b e = refl
 
 -- stamps in order: each follows the one before it
 pub inOrder-at : (d : ℕ) (xs : List ℤ) (i : ℕ) → inOrder d xs ≡ true → suc i < length xs → follows d (getD xs i (pos 0)) (getD xs (suc i) (pos 0)) ≡ true
@@ -163,7 +147,7 @@ abbrev stampOf : MaybeTimestamp → ℤ
 stampOf None = pos 0
 stampOf (At r) = r .micros
 
-pub nearestOf-more : (t best : ℤ) (xs : List ℤ) (x : ℤ) → 0 < length xs → at best ≡ nearestOf t xs → at (nearerOf t best x) ≡ nearestOf t (xs ++ (x ∷ []))
+nearestOf-more : (t best : ℤ) (xs : List ℤ) (x : ℤ) → 0 < length xs → at best ≡ nearestOf t xs → at (nearerOf t best x) ≡ nearestOf t (xs ++ (x ∷ []))
 unfolding nearestOf
 nearestOf-more t best [] x h e = absurd (not-suc-le-zero h)
 nearestOf-more t best (y ∷ ys) x h e =

@@ -1,11 +1,8 @@
 -- `cut_list::count_before` meets its contract. The invariant: n of the first i stamps have the property.
 use Prim.Native.Nat.{_≤_, _-_}
 use native.Mathlib.Omega.{arith}
-use mathlib.Core.Path.{_≡_, sym, ap, _∙_}
 use lib.IntN.{ℤ}
 use lib.Signed.{ltZ}
-use lib.ListN.{length, take}
-use Rattle.cut_list.specs.Find.{howMany}
 use Rattle.cut_list.proofs.Walks.{Counted, counted-none, counted-le, counted-more, counted-all}
 use Rattle.cut_list.proofs.count_before.Statement.{statement}
 use Rattle.cut_list.proofs.count_before.Tie as tie

@@ -1,8 +1,8 @@
 -- `cut_list::insert` meets its contract. The invariant: the stamps from i on stand one place up.
-use Prim.Native.Nat.{ℕ, zero, suc, _+_, _-_, _≤_, _<_}
+use Prim.Native.Nat.{ℕ, suc, _+_, _-_, _≤_, _<_}
 use native.Mathlib.Omega.{arith}
 use mathlib.Core.Path.{_≡_, refl, sym, ap, _∙_}
-use mathlib.Core.List.{List, [], _∷_, _++_}
+use mathlib.Core.List.{List, _∷_, _++_}
 use lib.IntN.{ℤ, pos}
 use lib.ListN.{length, getD, set, take, drop, length-set, take-append-drop, List·getD-append}
 use lib.Seq.{take-suc, drop-cons, set-at, append-snoc, getD-take, length-take-le}
@@ -38,9 +38,9 @@ above-more m₀ n j h l = let e : n - j ≡ suc (n - suc j) = omega arith in rw 
 moved-more : {m₀ m : List ℤ} {n i j : ℕ} (v : ℤ) → Moved m₀ n i m → i ≡ suc j → i ≤ n → n < length m₀ → v ≡ getD m j (pos 0) → Moved m₀ n j (set m i v)
 moved-more {m₀} {m} {n} {i} {j} v M q a h e =
     let kept : getD m j (pos 0) ≡ getD m₀ j (pos 0) =
-        ap (λ (l : List ℤ). getD l j (pos 0)) (M .is)
-        ∙ List·getD-append (take (suc i) m₀) (above m₀ n i) (pos 0) j (omega (arith, length-take-le (suc i) m₀ (omega arith)))
-        ∙ getD-take (suc i) m₀ j (pos 0) (omega arith) in
+    ap (λ (l : List ℤ). getD l j (pos 0)) (M .is)
+    ∙ List·getD-append (take (suc i) m₀) (above m₀ n i) (pos 0) j (omega (arith, length-take-le (suc i) m₀ (omega arith)))
+    ∙ getD-take (suc i) m₀ j (pos 0) (omega arith) in
     record {
       len = length-set m i v ∙ M .len;
       is =
@@ -61,58 +61,48 @@ Inv-loop memory₀ count place ts i₀ memory i = (place ≤ i) × (i ≤ count)
 abbrev μ-loop : tie.MeasureT-loop
 μ-loop memory₀ count place ts i₀ memory i = i
 
--- src/lib.rt:203:5
 loop-holds : tie.Need-loop-holds Inv-loop μ-loop
 loop-holds c = (omega arith, omega arith, moved-none _ _)
 
--- src/lib.rt:204:28
 sub-memory : tie.Need-sub-memory Inv-loop μ-loop
 sub-memory c = omega arith
 
--- src/lib.rt:204:21
 mul-memory : tie.Need-mul-memory Inv-loop μ-loop
 mul-memory c = omega arith
 
--- src/lib.rt:204:21
 slice-copy-out-memory : tie.Need-slice-copy-out-memory Inv-loop μ-loop
 slice-copy-out-memory c = omega arith
 
--- src/lib.rt:204:9
 mul-t12 : tie.Need-mul-t12 Inv-loop μ-loop
 mul-t12 c = omega arith
 
--- src/lib.rt:204:9
 slice-set-from-memory : tie.Need-slice-set-from-memory Inv-loop μ-loop
 slice-set-from-memory c = omega arith
 
--- src/lib.rt:205:9
 sub-i : tie.Need-sub-i Inv-loop μ-loop
 sub-i c = omega arith
 
--- src/lib.rt:203:5
 loop-less : tie.Need-loop-less Inv-loop μ-loop
 loop-less c = omega arith
 
--- src/lib.rt:203:5
 loop-again : tie.Need-loop-again Inv-loop μ-loop
 loop-again c =
-    let h = c .before .before .loop .inv in
-    (omega arith, omega arith, moved-more _ (h .2) (omega arith) (h .1) (c .before .before .before .pre .1)
-    (toZ-ofZ w64 _ (record { sfits = c .memory .given })))
+    let h = c .before .before .loop .inv in (
+      omega arith,
+      omega arith,
+      moved-more _ (h .2) (omega arith) (h .1) (c .before .before .before .pre .1)
+          (toZ-ofZ w64 _ (record { sfits = c .memory .given })),
+    )
 
--- src/lib.rt:208:5
 mul-t : tie.Need-mul-t Inv-loop μ-loop
 mul-t c = omega arith
 
--- src/lib.rt:208:5
 slice-set-from-t : tie.Need-slice-set-from-t Inv-loop μ-loop
 slice-set-from-t c = omega arith
 
--- src/lib.rt:198:1
 same-length : tie.Need-same-length Inv-loop μ-loop
 same-length c = length-set (c .before .before .loop .memory) _ _ ∙ c .before .before .loop .inv .2 .len
 
--- src/lib.rt:198:1
 returns : tie.Need-returns Inv-loop μ-loop
 returns c =
     let h = c .before .before .loop .inv in

@@ -1,5 +1,5 @@
 -- `cut_list::take_out` meets its contract. The invariant: the stamps past `place`, up to i, stand one place down.
-use Prim.Native.Nat.{ℕ, zero, suc, _+_, _-_, _≤_, _<_}
+use Prim.Native.Nat.{ℕ, suc, _+_, _-_, _≤_, _<_}
 use native.Mathlib.Omega.{arith}
 use mathlib.Core.Path.{_≡_, refl, sym, ap, _∙_}
 use mathlib.Core.List.{List, [], _∷_, _++_, append-assoc, append-nil}
@@ -50,11 +50,11 @@ moved-more {m₀} {m} {p} {i} v M a h e =
     let r = below m₀ p i in
     let at : i + 1 ≡ length r + 1 = omega (arith, length-below m₀ p i a (omega arith)) in
     let kept : getD m (i + 1) (pos 0) ≡ getD m₀ (suc i) (pos 0) =
-        ap (λ (l : List ℤ). getD l (i + 1) (pos 0)) (M .is)
-        ∙ ap (λ (k : ℕ). getD (r ++ drop i m₀) k (pos 0)) at
-        ∙ getD-append-add r (drop i m₀) 1 (pos 0)
-        ∙ getD-drop i m₀ 1 (pos 0)
-        ∙ ap (λ (k : ℕ). getD m₀ k (pos 0)) s in
+    ap (λ (l : List ℤ). getD l (i + 1) (pos 0)) (M .is)
+    ∙ ap (λ (k : ℕ). getD (r ++ drop i m₀) k (pos 0)) at
+    ∙ getD-append-add r (drop i m₀) 1 (pos 0)
+    ∙ getD-drop i m₀ 1 (pos 0)
+    ∙ ap (λ (k : ℕ). getD m₀ k (pos 0)) s in
     record {
       len = length-set m i v ∙ M .len;
       is =
@@ -82,61 +82,47 @@ Inv-loop memory₀ count place last i₀ memory i = (place ≤ i) × (i ≤ last
 abbrev μ-loop : tie.MeasureT-loop
 μ-loop memory₀ count place last i₀ memory i = last - i
 
--- src/lib.rt:255:16
 sub-last : tie.Need-sub-last Inv-loop μ-loop
 sub-last c = omega arith
 
--- src/lib.rt:257:5
 loop-holds : tie.Need-loop-holds Inv-loop μ-loop
 loop-holds c = (omega arith, omega arith, moved-none _ _)
 
--- src/lib.rt:258:28
 add-memory : tie.Need-add-memory Inv-loop μ-loop
 add-memory c = omega arith
 
--- src/lib.rt:258:21
 mul-memory : tie.Need-mul-memory Inv-loop μ-loop
 mul-memory c = omega arith
 
--- src/lib.rt:258:21
 slice-copy-out-memory : tie.Need-slice-copy-out-memory Inv-loop μ-loop
 slice-copy-out-memory c = omega arith
 
--- src/lib.rt:258:9
 mul-t11 : tie.Need-mul-t11 Inv-loop μ-loop
 mul-t11 c = omega arith
 
--- src/lib.rt:258:9
 slice-set-from-memory : tie.Need-slice-set-from-memory Inv-loop μ-loop
 slice-set-from-memory c = omega arith
 
--- src/lib.rt:259:9
 add-i : tie.Need-add-i Inv-loop μ-loop
 add-i c = omega arith
 
--- src/lib.rt:257:5
 loop-less : tie.Need-loop-less Inv-loop μ-loop
 loop-less c = omega arith
 
--- src/lib.rt:257:5
 loop-again : tie.Need-loop-again Inv-loop μ-loop
 loop-again c =
     let h = c .before .before .loop .inv in
     (omega arith, omega arith, moved-more _ (h .2) (h .0) (omega arith) (toZ-ofZ w64 _ (record { sfits = c .memory .given })))
 
--- src/lib.rt:261:5
 mul-memory-2 : tie.Need-mul-memory-2 Inv-loop μ-loop
 mul-memory-2 c = omega arith
 
--- src/lib.rt:261:5
 slice-set-of-memory : tie.Need-slice-set-of-memory Inv-loop μ-loop
 slice-set-of-memory c = omega arith
 
--- src/lib.rt:251:1
 same-length : tie.Need-same-length Inv-loop μ-loop
 same-length c = length-set (c .before .loop .memory) _ _ ∙ c .before .loop .inv .2 .len
 
--- src/lib.rt:251:1
 returns : tie.Need-returns Inv-loop μ-loop
 returns c =
     let h = c .before .loop .inv in

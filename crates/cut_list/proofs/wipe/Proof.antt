@@ -1,8 +1,8 @@
 -- `cut_list::wipe` meets its contract. The invariant: the first i places are 0, the others as they were.
 use Prim.Native.Nat.{ℕ, suc, _+_, _-_, _≤_, _<_}
 use native.Mathlib.Omega.{arith}
-use mathlib.Core.Path.{_≡_, refl, sym, ap, _∙_}
-use mathlib.Core.List.{List, [], _∷_, _++_}
+use mathlib.Core.Path.{_≡_, refl, sym, _∙_}
+use mathlib.Core.List.{List, _++_}
 use lib.IntN.{ℤ, pos}
 use lib.ListN.{length, getD, set, drop, replicate, length-set, length-replicate, replicate-append-replicate}
 use lib.Seq.{drop-cons, set-at, append-snoc}
