@@ -4,22 +4,23 @@ use Prim.Native.Nat.{ℕ, zero, suc, _+_, _-_, _≤_, _<_}
 use native.Mathlib.Omega.{arith}
 use mathlib.Core.Path.{_≡_, refl, sym, ap, _∙_}
 use mathlib.Core.Bool.{Bool, true, false, cond, not, _&&_, _||_, true≢false}
-use mathlib.Core.List.{List, [], _∷_, _++_, append-assoc}
-use borrow.Author.Tests.{ltb-true, ltb-false, not-false, eqb-false, ne-eqb, eq-eqb, lt-ltb}
+use mathlib.Core.List.{List, _∷_, _++_, append-assoc}
+use borrow.Author.Tests.{ltb-true, ltb-false, not-false, ne-eqb, eq-eqb}
 use lib.Dec.{eqb, ltb, eqb·suc-zero}
 use lib.IntN.{ℤ, pos}
 use lib.ListN.{length, getD, take, drop, replicate}
-use lib.Seq.{getD-take, take-take, take-add, length-take-le, drop-at, drop-drop}
+use lib.Seq.{getD-take, take-take, take-add, length-take-le, drop-at}
 use lib.Signed.{ltZ}
 use Rattle.laws.specs.Lists.{leaveOut}
 use Rattle.laws.proofs.Bools.{or-false}
 use Rattle.cut_list.specs.declared.CutList.{CutList}
-use Rattle.cut_list.specs.Record.{places, Held, held, cutList, stampsOf, follows, inOrder, isBad}
-use Rattle.cut_list.specs.Change.{Turn, turned, same, tooClose, anyOf, inserted, addNumber, withStamp, added, removeNumber, withoutStamp, removed, listNumber, withoutStamps, emptied}
+use Rattle.cut_list.specs.Record.{places, held, cutList, follows, inOrder, isBad}
+use Rattle.cut_list.specs.Change.{turned, same, tooClose, anyOf, inserted, addNumber, withStamp, added, removeNumber, withoutStamp, removed, listNumber, withoutStamps, emptied}
 use Rattle.timestamp.specs.declared.Timestamp.{Timestamp}
 use Rattle.timestamp.specs.declared.MaybeTimestamp.the-variants.{None, At}
 use Rattle.cut_list.specs.Find.{nearestOf, nearestIn, spanIn, clipOf, clipIn}
-use Rattle.cut_list.proofs.Order.{before, earlierOk, laterOk, fits, inserted-at, stands, left-at, howMany-le}
+use Rattle.cut_list.proofs.Order.{before, earlierOk, laterOk, fits, inserted-at, stands, left-at}
+use Rattle.cut_list.proofs.Walks.{howMany-le}
 use Rattle.cut_list.proofs.Spans.{span-some, span-none}
 
 -- a list that is not bad
@@ -166,8 +167,11 @@ module _ (l : CutList) (m : List ℤ) (t : ℤ) (good : isBad (held l m) ≡ fal
   placed : anyOf (tooClose d t) xs ≡ false
       → take place m ++ (t ∷ (take (l .count - place) (drop place m) ++ drop (l .count + 1) m)) ≡ inserted t xs ++ drop (l .count + 1) m
   placed free =
-      rw (inserted-at d t xs (is-sound .ordered) free, take-take place (l .count) m place-le,
-        drop-take place (l .count) m place-le (omega (arith, is-sound .few, is-sound .room)))
+      rw (
+        inserted-at d t xs (is-sound .ordered) free,
+        take-take place (l .count) m place-le,
+        drop-take place (l .count) m place-le (omega (arith, is-sound .few, is-sound .room)),
+      )
       (sym (append-assoc (take place m) (t ∷ take (l .count - place) (drop place m)) (drop (l .count + 1) m)))
 
   pub add-done : (follows-earlier && later-follows) ≡ true → (l .count ≡ 512 → ⊥)
@@ -211,8 +215,11 @@ module _ (l : CutList) (m : List ℤ) (t : ℤ) (good : isBad (held l m) ≡ fal
   taken e =
       let lt = place-lt e in
       let s : same t (getD xs place (pos 0)) ≡ true = rw (getD-take (l .count) m place (pos 0) lt) (there-read e .1) in
-      rw (left-at d t xs (is-sound .ordered) (omega (arith, size)) s, take-take place (l .count) m place-le,
-        drop-take (place + 1) (l .count) m (omega arith) (omega (arith, is-sound .few, is-sound .room)))
+      rw (
+        left-at d t xs (is-sound .ordered) (omega (arith, size)) s,
+        take-take place (l .count) m place-le,
+        drop-take (place + 1) (l .count) m (omega arith) (omega (arith, is-sound .few, is-sound .room)),
+      )
       (sym (append-assoc (take place m) (take (l .count - (place + 1)) (drop (place + 1) m)) (pos 0 ∷ drop (l .count) m)))
 
   pub remove-done : there ≡ true

@@ -1,23 +1,24 @@
 -- What holds of stamps in order. Most laws speak of a stamp t and of p, how many of the stamps are before t: p is then the place where t stands,
 -- or would stand.
-use Prim.Native.Nat.{ℕ, zero, suc, _+_, _-_, _≤_, _<_}
-use native.Mathlib.Nat.{zero-add, suc-add, le-of-suc-le-suc, not-suc-le-zero}
+use Prim.Native.Nat.{ℕ, zero, suc, _+_, _≤_, _<_}
+use native.Mathlib.Nat.{suc-add, le-of-suc-le-suc, not-suc-le-zero}
 use native.Mathlib.Omega.{arith}
-use mathlib.Core.Path.{_≡_, refl, sym, ap, _∙_}
+use mathlib.Core.Path.{_≡_, refl, sym}
 use mathlib.Core.Bool.{Bool, true, false, cond, not, _&&_, _||_, true≢false}
 use mathlib.Core.List.{List, [], _∷_, _++_}
-use borrow.Author.Tests.{ne-eqb, eq-eqb, lt-ltb, le-ltb}
-use lib.Dec.{eqb, ltb, leb·suc-suc}
+use borrow.Author.Tests.{lt-ltb}
+use lib.Dec.{ltb, leb·suc-suc}
 use lib.IntN.{ℤ, pos}
 use lib.ListN.{length, getD, take, drop}
-use lib.Signed.{leZ, ltZ}
+use lib.Signed.{ltZ}
 use Rattle.laws.specs.Lists.{All, leaveOut}
 use Rattle.laws.proofs.Bools.{and-true, or-false}
-use Rattle.laws.proofs.Whole.{whole, up, dn, le-leZ, lt-leZ, lt-ltZ, le-ltZ}
+use Rattle.laws.proofs.Whole.{whole, lt-ltZ, le-ltZ}
 use Rattle.timestamp.specs.Stamps.{distance}
 use Rattle.cut_list.specs.Record.{follows, inOrder}
 use Rattle.cut_list.specs.Change.{same, tooClose, anyOf, inserted}
-use Rattle.cut_list.specs.Find.{howMany, firstPlace, within}
+use Rattle.cut_list.specs.Find.{howMany}
+use Rattle.cut_list.proofs.Walks.{howMany-le}
 use Rattle.cut_list.proofs.Tests.{Past, follows-read, follows-make, past-trans, close-before, close-after, before-other, other-past, past-other, same-read}
 
 -- how many stamps are before t
@@ -46,23 +47,10 @@ rest-past d x (y ∷ ys) e =
 
 -- ---- counting
 
-pub howMany-le : (p : ℤ → Bool) (xs : List ℤ) → howMany p xs ≤ length xs
+pub none-have : (p : ℤ → Bool) (xs : List ℤ) → All (λ (x : ℤ). p x ≡ false) xs → howMany p xs ≡ 0
 unfolding howMany
-howMany-le p [] = omega arith
-howMany-le p (x ∷ xs) = by (p x) (howMany-le p xs)
-  where
-    by : (b : Bool) → howMany p xs ≤ length xs → cond b 1 0 + howMany p xs ≤ suc (length xs)
-    by true h = omega (arith, h)
-    by false h = omega (arith, h)
-
-pub howMany-none : (p : ℤ → Bool) (xs : List ℤ) → All (λ (x : ℤ). p x ≡ false) xs → howMany p xs ≡ 0
-unfolding howMany
-howMany-none p [] h = refl
-howMany-none p (x ∷ xs) h = rw (h .0, howMany-none p xs (h .1))
-
-pub howMany-head : (p : ℤ → Bool) (x : ℤ) (xs : List ℤ) (b : Bool) → p x ≡ b → howMany p (x ∷ xs) ≡ cond b 1 0 + howMany p xs
-unfolding howMany
-howMany-head p x xs b e = rw e
+none-have p [] h = refl
+none-have p (x ∷ xs) h = rw (h .0, none-have p xs (h .1))
 
 anyOf-none : (p : ℤ → Bool) (xs : List ℤ) → All (λ (x : ℤ). p x ≡ false) xs → anyOf p xs ≡ false
 unfolding anyOf
@@ -80,7 +68,7 @@ module _ (d : ℕ) (t x : ℤ) (xs : List ℤ) (ordered : inOrder d (x ∷ xs) �
 
   pub none-before : before t (x ∷ xs) ≡ 0
   unfolding howMany
-  none-before = rw (h, howMany-none (λ (y : ℤ). ltZ y t) xs later-ones)
+  none-before = rw (h, none-have (λ (y : ℤ). ltZ y t) xs later-ones)
 
 -- a stamp before t counts
 pub one-before : (t x : ℤ) (xs : List ℤ) → ltZ x t ≡ true → before t (x ∷ xs) ≡ suc (before t xs)
@@ -133,9 +121,9 @@ with-later : (d : ℕ) (t x : ℤ) (xs : List ℤ) → inOrder d (x ∷ xs) ≡ 
 unfolding anyOf
 with-later d t x xs o h true f =
     let far : All (λ (y : ℤ). tooClose d t y ≡ false) xs =
-        all-map (λ y p. let l = p .later in
-          rw (close-after d t y (le-ltZ y t (omega whole)), follows-make d t y (past-trans (follows-read d t x f) p)) refl)
-        xs (rest-past d x xs o) in
+    all-map (λ y p. let l = p .later in
+    rw (close-after d t y (le-ltZ y t (omega whole)), follows-make d t y (past-trans (follows-read d t x f) p)) refl)
+    xs (rest-past d x xs o) in
     rw (close-after d t x h, f, anyOf-none (tooClose d t) xs far)
 with-later d t x xs o h false f = rw (close-after d t x h, f)
 

@@ -1,7 +1,7 @@
 -- The stamps within a span: how many they are needs no order, the place of the first does.
-use Prim.Native.Nat.{ℕ, zero, suc, _+_, _-_, _≤_, _<_}
+use Prim.Native.Nat.{ℕ, _+_, _-_, _≤_, _<_}
 use native.Mathlib.Omega.{arith}
-use mathlib.Core.Path.{_≡_, refl, sym, _∙_}
+use mathlib.Core.Path.{_≡_, refl}
 use mathlib.Core.Bool.{Bool, true, false, cond, _&&_}
 use mathlib.Core.List.{List, [], _∷_}
 use borrow.Author.Tests.{ne-eqb, eq-eqb}
@@ -9,10 +9,10 @@ use lib.IntN.{ℤ}
 use lib.Signed.{leZ, ltZ}
 use Rattle.laws.specs.Lists.{All}
 use Rattle.laws.proofs.Bools.{and-right-false}
-use Rattle.laws.proofs.Whole.{whole, le-leZ, lt-leZ, lt-ltZ, le-ltZ}
+use Rattle.laws.proofs.Whole.{whole, le-leZ, lt-leZ, lt-ltZ}
 use Rattle.cut_list.specs.Record.{inOrder}
 use Rattle.cut_list.specs.Find.{within, howMany, firstPlace, spanStart, clipOf}
-use Rattle.cut_list.proofs.Order.{before, tail-ordered, rest-past, all-map, howMany-none, none-before, one-before}
+use Rattle.cut_list.proofs.Order.{before, tail-ordered, rest-past, all-map, none-have, none-before, one-before}
 
 -- one stamp's part in the three counts, for a span whose ends are in order
 one : (a b x : ℤ) → leZ a b ≡ true → cond (ltZ x a) 1 0 + cond (within a b x) 1 0 ≡ cond (leZ x b) 1 0
@@ -63,8 +63,8 @@ first-at d a b (x ∷ xs) o some = by (ltZ x a) refl (first-at d a b xs (tail-or
     past h true k n = refl
     past h false k n =
         let none : All (λ (y : ℤ). within a b y ≡ false) xs =
-            all-map (λ y p. let l = p .later in and-right-false (leZ a y) (leZ y b) (lt-leZ y b (omega whole))) xs (rest-past d x xs o) in
-        let zero-in : howMany (within a b) (x ∷ xs) ≡ 0 = rw (k, and-right-false (leZ a x) false refl, howMany-none (within a b) xs none) in
+        all-map (λ y p. let l = p .later in and-right-false (leZ a y) (leZ y b) (lt-leZ y b (omega whole))) xs (rest-past d x xs o) in
+        let zero-in : howMany (within a b) (x ∷ xs) ≡ 0 = rw (k, and-right-false (leZ a x) false refl, none-have (within a b) xs none) in
         absurd (omega (arith, zero-in))
 
     by : (p : Bool) → ltZ x a ≡ p → (0 < howMany (within a b) xs → firstPlace (within a b) xs ≡ before a xs) → 0 < howMany (within a b) (x ∷ xs)
@@ -104,4 +104,4 @@ span-none a b xs le = by (leZ a b) refl
 
     by : (p : Bool) → leZ a b ≡ p → Within a b xs 0 0
     by true e = none (omega (arith, counts a b xs e))
-    by false e = none (howMany-none (within a b) xs (all-out a b e xs))
+    by false e = none (none-have (within a b) xs (all-out a b e xs))

@@ -4,11 +4,11 @@ use native.Mathlib.Omega.{arith}
 use mathlib.Core.Path.{_≡_, refl, sym, _∙_}
 use mathlib.Core.Bool.{Bool, true, false, not, true≢false}
 use borrow.Author.Tests.{ne-eqb, ltb-true, ltb-false, eqb-true, eqb-false}
-use lib.Dec.{eqb, ltb}
+use lib.Dec.{ltb}
 use lib.IntN.{ℤ, pos, _+ℤ_}
 use lib.Signed.{leZ, ltZ}
-use Rattle.laws.proofs.Bools.{and-true, and-right-false, or-right-true}
-use Rattle.laws.proofs.Whole.{whole, up, dn, sum-read, abs-down, abs-up, lt-ltZ, le-ltZ}
+use Rattle.laws.proofs.Bools.{and-true}
+use Rattle.laws.proofs.Whole.{whole, up, dn, sum-read, abs-down, abs-up, lt-ltZ}
 use Rattle.timestamp.specs.Stamps.{distance}
 use Rattle.cut_list.specs.Record.{follows}
 use Rattle.cut_list.specs.Change.{same, tooClose}

@@ -4,7 +4,7 @@ use native.Mathlib.Nat.{not-suc-le-zero}
 use native.Mathlib.Omega.{arith}
 use native.Mathlib.Decide.{ℕ-discrete}
 use mathlib.Core.Path.{_≡_, refl, sym, ap, _∙_}
-use mathlib.Core.Bool.{Bool, true, false, cond, _&&_, true≢false, false≢true}
+use mathlib.Core.Bool.{Bool, true, false, cond, true≢false}
 use mathlib.Core.List.{List, [], _∷_, _++_}
 use lib.Dec.{ltb}
 use lib.IntN.{ℤ, pos}
@@ -14,6 +14,7 @@ use Rattle.timestamp.specs.Stamps.{distance}
 use Rattle.timestamp.specs.declared.Timestamp.{Timestamp}
 use Rattle.timestamp.specs.declared.MaybeTimestamp.{MaybeTimestamp}
 use Rattle.timestamp.specs.declared.MaybeTimestamp.the-variants.{None, At}
+use Rattle.laws.proofs.Bools.{and-true}
 use Rattle.cut_list.specs.Record.{follows, inOrder}
 use Rattle.cut_list.specs.Find.{howMany, nearestFrom, nearestOf}
 
@@ -66,31 +67,20 @@ counted-all {p} {m} {i} {n} {k} C a b = let e : k ≡ i = omega arith in rw e (C
 
 -- ---- in order
 
-both-true : (a b : Bool) → a ≡ true → b ≡ true → (a && b) ≡ true
-both-true a b e f = rw (e, f)
-
-left-true : (a b : Bool) → (a && b) ≡ true → a ≡ true
-left-true true b e = refl
-left-true false b e = e
-
-right-true : (a b : Bool) → (a && b) ≡ true → b ≡ true
-right-true true b e = e
-right-true false b e = absurd (false≢true e)
-
 -- stamps in order: each follows the one before it
 pub inOrder-at : (d : ℕ) (xs : List ℤ) (i : ℕ) → inOrder d xs ≡ true → suc i < length xs → follows d (getD xs i (pos 0)) (getD xs (suc i) (pos 0)) ≡ true
 unfolding inOrder
 inOrder-at d [] i e h = absurd (not-suc-le-zero h)
 inOrder-at d (x ∷ []) i e h = absurd (omega arith)
-inOrder-at d (x ∷ y ∷ ys) zero e h = left-true (follows d x y) (inOrder d (y ∷ ys)) e
-inOrder-at d (x ∷ y ∷ ys) (suc i) e h = inOrder-at d (y ∷ ys) i (right-true (follows d x y) (inOrder d (y ∷ ys)) e) (omega arith)
+inOrder-at d (x ∷ y ∷ ys) zero e h = and-true (follows d x y) (inOrder d (y ∷ ys)) e .0
+inOrder-at d (x ∷ y ∷ ys) (suc i) e h = inOrder-at d (y ∷ ys) i (and-true (follows d x y) (inOrder d (y ∷ ys)) e .1) (omega arith)
 
 -- and if each does, they are in order
 pub inOrder-all : (d : ℕ) (xs : List ℤ) → ((i : ℕ) → suc i < length xs → follows d (getD xs i (pos 0)) (getD xs (suc i) (pos 0)) ≡ true) → inOrder d xs ≡ true
 unfolding inOrder
 inOrder-all d [] f = refl
 inOrder-all d (x ∷ []) f = refl
-inOrder-all d (x ∷ y ∷ ys) f = both-true (follows d x y) (inOrder d (y ∷ ys)) (f 0 (omega arith)) (inOrder-all d (y ∷ ys) (λ i h. f (suc i) (omega arith)))
+inOrder-all d (x ∷ y ∷ ys) f = rw (f 0 (omega arith), inOrder-all d (y ∷ ys) (λ i h. f (suc i) (omega arith)))
 
 -- if one does not, they are not
 pub inOrder-not : (d : ℕ) (xs : List ℤ) (i : ℕ) → suc i < length xs → follows d (getD xs i (pos 0)) (getD xs (suc i) (pos 0)) ≡ false → inOrder d xs ≡ false

@@ -1,10 +1,10 @@
 -- `cut_list::nearest` meets its contract. Assumes nothing.
 use native.Mathlib.Omega.{arith}
 use mathlib.Core.Path.{_≡_, sym, _∙_}
-use mathlib.Core.Bool.{true, false}
+use mathlib.Core.Bool.{false}
 use borrow.Author.Needs.{needs}
 use Rattle.cut_list.specs.Record.{held, isBad}
-use Rattle.cut_list.proofs.Brought.{Sound, sound, nearest-bad, nearest-none, nearest-done}
+use Rattle.cut_list.proofs.Brought.{sound, nearest-bad, nearest-none, nearest-done}
 use Rattle.cut_list.proofs.nearest.Statement.{statement}
 use Rattle.cut_list.proofs.nearest.Tie as tie
 

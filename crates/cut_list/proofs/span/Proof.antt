@@ -1,10 +1,10 @@
 -- `cut_list::span` meets its contract. Assumes nothing.
 use native.Mathlib.Omega.{arith}
 use mathlib.Core.Path.{_≡_, sym, _∙_}
-use mathlib.Core.Bool.{true, false}
+use mathlib.Core.Bool.{false}
 use borrow.Author.Needs.{needs}
 use Rattle.cut_list.specs.Record.{held, isBad}
-use Rattle.cut_list.proofs.Brought.{Sound, sound, span-bad, span-done, span-empty}
+use Rattle.cut_list.proofs.Brought.{sound, span-bad, span-done, span-empty}
 use Rattle.cut_list.proofs.span.Statement.{statement}
 use Rattle.cut_list.proofs.span.Tie as tie
 
