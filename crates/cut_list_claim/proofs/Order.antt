@@ -1,14 +1,14 @@
 -- Stamps in order: what it keeps to insert one or to leave one out, and which stamps are there then. Assumes nothing.
-use Prim.Native.Nat.{ℕ, zero, suc, _+_, _-_, _≤_, _<_}
+use Prim.Native.Nat.{ℕ, suc, _+_, _≤_, _<_}
 use native.Mathlib.Omega.{arith}
-use mathlib.Core.Path.{_≡_, refl, sym, ap, _∙_, subst}
+use mathlib.Core.Path.{_≡_, refl, sym, ap}
 use mathlib.Core.Bool.{Bool, true, false, cond, not, _&&_, _||_, true≢false, and-eq-true-iff}
 use mathlib.Core.List.{List, [], _∷_}
-use lib.Dec.{eqb, ltb}
-use lib.IntN.{ℤ, pos, natAbs, _+ℤ_, _-ℤ_}
+use lib.Dec.{ltb}
+use lib.IntN.{ℤ, pos, _+ℤ_}
 use lib.ListN.{length}
 use lib.Signed.{ltZ, leZ}
-use borrow.Author.Tests.{eqb-true, eqb-false, eq-eqb, ne-eqb, ltb-true, ltb-false, le-ltb, lt-ltb}
+use borrow.Author.Tests.{eqb-true, eqb-false, eq-eqb, ne-eqb, ltb-false, le-ltb}
 use Rattle.laws.specs.Lists.{All, leaveOut}
 use Rattle.laws.proofs.Whole.{up, dn, eq-make, sum-read, abs-down, abs-up, leZ-true, le-leZ, ltZ-true, ltZ-false}
 use Rattle.timestamp.specs.Stamps.{distance}
@@ -24,6 +24,11 @@ or-false false b e = (refl, e)
 pub all-map : {A : Type 0} {P Q : A → Type 0} → ((x : A) → P x → Q x) → (xs : List A) → All P xs → All Q xs
 all-map f [] a = tt
 all-map f (x ∷ xs) a = (f x (a .0), all-map f xs (a .1))
+
+pub any-false : (p : ℤ → Bool) (xs : List ℤ) → All (λ (x : ℤ). p x ≡ false) xs → anyOf p xs ≡ false
+unfolding anyOf
+any-false p [] a = refl
+any-false p (x ∷ xs) a = rw (a .0) (any-false p xs (a .1))
 
 pub lt-ltZ : (a b : ℤ) → up a + dn b < up b + dn a → ltZ a b ≡ true
 lt-ltZ a b h = by (ltZ a b) refl
@@ -107,7 +112,7 @@ abbrev pub Sorted : ℕ → List ℤ → Type 0
 Sorted d [] = Unit {0}
 Sorted d (x ∷ xs) = All (Follows d x) xs × Sorted d xs
 
-followed : (d : ℕ) (x y : ℤ) (ys : List ℤ) → Follows d x y → All (Follows d y) ys → All (Follows d x) (y ∷ ys)
+pub followed : (d : ℕ) (x y : ℤ) (ys : List ℤ) → Follows d x y → All (Follows d y) ys → All (Follows d x) (y ∷ ys)
 followed d x y ys f a = (f, all-map (λ z g. follows-trans d x y z f g) ys a)
 
 pub in-order-read : (d : ℕ) (xs : List ℤ) → inOrder d xs ≡ true → Sorted d xs
@@ -167,7 +172,8 @@ module _ (t : ℤ) where
       either true false c = refl
       either false b c = refl
 
-      by : (b : Bool) → anyOf p (inserted t xs) ≡ (p t || anyOf p xs) → anyOf p (cond b (t ∷ x ∷ xs) (x ∷ inserted t xs)) ≡ (p t || (p x || anyOf p xs))
+      by : (b : Bool) → anyOf p (inserted t xs) ≡ (p t || anyOf p xs)
+          → anyOf p (cond b (t ∷ x ∷ xs) (x ∷ inserted t xs)) ≡ (p t || (p x || anyOf p xs))
       by true ih = refl
       by false ih = rw ih (either (p x) (p t) (anyOf p xs))
 

@@ -1,6 +1,6 @@
 -- The places from 512 on are not read and not written: an operation on `first ++ xs`, where `first` has 512 places, is the operation on `first`, with
 -- xs behind it. Assumes nothing.
-use Prim.Native.Nat.{ℕ, zero, suc, _+_, _-_, _≤_, _<_}
+use Prim.Native.Nat.{ℕ, _+_, _≤_, _<_}
 use native.Mathlib.Omega.{arith}
 use mathlib.Core.Path.{_≡_, refl, sym, ap, _∙_}
 use mathlib.Core.Bool.{Bool, true, false, cond, not, _||_, true≢false, false≢true}
@@ -11,7 +11,6 @@ use lib.ListN.{length, take, drop, replicate, length-append}
 use lib.Seq.{take-append-le, drop-append-le, take-at, drop-at}
 use borrow.Author.Tests.{eqb-true, ltb-false, le-ltb}
 use Rattle.laws.specs.Lists.{leaveOut}
-use Rattle.timestamp.specs.declared.MaybeTimestamp.{MaybeTimestamp}
 use Rattle.timestamp.specs.declared.MaybeTimestamp.the-variants.{None}
 use Rattle.frame.specs.Refusal.{firstThat}
 use Rattle.cut_list.specs.declared.CutList.{CutList}
@@ -19,11 +18,11 @@ use Rattle.cut_list.specs.declared.NearestStamp.{NearestStamp}
 use Rattle.cut_list.specs.declared.StampsWithin.{StampsWithin}
 use Rattle.cut_list.specs.declared.ClipOfStamp.{ClipOfStamp}
 use Rattle.cut_list.specs.Record.{places, Held, held, stampsOf, inOrder, isBad}
-use Rattle.cut_list.specs.Change.{Turn, turned, orRefused, same, anyOf, tooClose, addNumber, inserted, withStamp, added, removeNumber, withoutStamp, removed, listNumber, withoutStamps, emptied}
+use Rattle.cut_list.specs.Change.{Turn, orRefused, same, anyOf, tooClose, addNumber, inserted, withStamp, added, removeNumber, withoutStamp, removed, listNumber, withoutStamps, emptied}
 use Rattle.cut_list.specs.Find.{nearestOf, nearestIn, spanStart, howMany, within, spanIn, clipOf, clipIn}
 use Rattle.cut_list_claim.specs.Run.{Operation, add, remove, empty, nearest, span, clip, operated}
 use Rattle.cut_list_claim.specs.Claim.{RestUntouched}
-use Rattle.cut_list_claim.proofs.Steps.{not-bad-read, isClose, isIn, add-rows, add-leaves, remove-rows, remove-leaves, empty-rows, empty-leaves}
+use Rattle.cut_list_claim.proofs.Steps.{leaving, not-bad-read, add-rows, add-leaves, remove-rows, remove-leaves, empty-rows, empty-leaves}
 
 -- the same choice, where the two tests agree and, failed, so do the two values
 pick-alike : {A : Type 0} (x y z : A) (a b : Bool) → a ≡ b → (b ≡ false → y ≡ z) → cond a x y ≡ cond b x z
@@ -37,18 +36,15 @@ abbrev behind : List ℤ → Held → Held
 behind xs h = held (h .list) (h .memory ++ xs)
 
 abbrev over : List ℤ → Turn → Turn
-over xs y = record { number = y .number; after = behind xs (y .after) }
-
-abbrev turnedTo : ℕ → Held → Turn
-turnedTo n h = record { number = n; after = h }
+over xs y = leaving (y .number) (behind xs (y .after))
 
 -- an operation on a list with more places behind its memory has the same number, and if accepted leaves the same with those places behind it
 orRefused-over : (h after after′ : Held) (xs : List ℤ) (n m : ℕ) → n ≡ m → (m ≡ 0 → after′ ≡ behind xs after)
     → orRefused n (behind xs h) after′ ≡ over xs (orRefused m h after)
 orRefused-over h after after′ xs n m e same-after = rw e (by (eqb m 0) refl)
   where
-    by : (b : Bool) → eqb m 0 ≡ b → turnedTo m (cond b after′ (behind xs h)) ≡ over xs (turnedTo m (cond b after h))
-    by true q = ap (λ (k : Held). turnedTo m k) (same-after (eqb-true m 0 q))
+    by : (b : Bool) → eqb m 0 ≡ b → leaving m (cond b after′ (behind xs h)) ≡ over xs (leaving m (cond b after h))
+    by true q = ap (λ (k : Held). leaving m k) (same-after (eqb-true m 0 q))
     by false q = refl
 
 module _ (l : CutList) (first : List ℤ) (len : length first ≡ places) (xs : List ℤ) where
@@ -70,7 +66,8 @@ module _ (l : CutList) (first : List ℤ) (len : length first ≡ places) (xs : 
           ≡ (b || ltb (length first) places || not (inOrder (l .«min_duration») (take (l .count) first)))
       by true q = refl
       by false q =
-          rw (le-ltb (length (first ++ xs)) places (omega (arith, length-append first xs)), le-ltb (length first) places (omega arith), stamps-alike (ltb-false places (l .count) q))
+          let long = le-ltb (length (first ++ xs)) places (omega (arith, length-append first xs)) in
+          rw (long, le-ltb (length first) places (omega arith), stamps-alike (ltb-false places (l .count) q))
 
   few-of : isBad alone ≡ false → l .count ≤ places
   few-of e = not-bad-read alone e .few
@@ -99,7 +96,8 @@ module _ (l : CutList) (first : List ℤ) (len : length first ≡ places) (xs : 
 
   -- the written places, then the others
   written : (stamps wiped : List ℤ) (n : ℕ) → n ≤ places → stamps ++ (wiped ++ drop n (first ++ xs)) ≡ (stamps ++ (wiped ++ drop n first)) ++ xs
-  written stamps wiped n small = rw (drop-append-le n first xs (omega arith), append-assoc stamps (wiped ++ drop n first) xs, append-assoc wiped (drop n first) xs)
+  written stamps wiped n small =
+      rw (drop-append-le n first xs (omega arith), append-assoc stamps (wiped ++ drop n first) xs, append-assoc wiped (drop n first) xs)
 
   add-over : (t : ℤ) → added with-more t ≡ over xs (added alone t)
   unfolding added addNumber withStamp
@@ -133,15 +131,17 @@ module _ (l : CutList) (first : List ℤ) (len : length first ≡ places) (xs : 
       accepted = empty-rows alone (λ y. y .number ≡ 0 → l .count ≤ places) (λ _. omega arith) (λ fine _. few-of fine)
 
   -- a reader leaves the list as it was
-  reader-over : (n m : ℕ) → n ≡ m → turnedTo n with-more ≡ over xs (turnedTo m alone)
-  reader-over n m e = ap (λ (k : ℕ). turnedTo k with-more) e
+  reader-over : (n m : ℕ) → n ≡ m → leaving n with-more ≡ over xs (leaving m alone)
+  reader-over n m e = ap (λ (k : ℕ). leaving k with-more) e
 
   operated-over : (o : Operation) → operated with-more o ≡ over xs (operated alone o)
   operated-over (add t) = add-over t
   operated-over (remove t) = remove-over t
   operated-over empty = empty-over
-  operated-over (nearest t) = reader-over (nearestIn with-more t .number) (nearestIn alone t .number) (ap (λ (r : NearestStamp). r .number) (nearest-alike t))
-  operated-over (span a b) = reader-over (spanIn with-more a b .number) (spanIn alone a b .number) (ap (λ (r : StampsWithin). r .number) (span-alike a b))
+  operated-over (nearest t) =
+      reader-over (nearestIn with-more t .number) (nearestIn alone t .number) (ap (λ (r : NearestStamp). r .number) (nearest-alike t))
+  operated-over (span a b) =
+      reader-over (spanIn with-more a b .number) (spanIn alone a b .number) (ap (λ (r : StampsWithin). r .number) (span-alike a b))
   operated-over (clip t) = reader-over (clipIn with-more t .number) (clipIn alone t .number) (ap (λ (r : ClipOfStamp). r .number) (clip-alike t))
 
 -- the memory keeps its length

@@ -1,8 +1,8 @@
 -- What each operation does to a list that is not bad: it goes by the rows of its refusals, and leaves a list that is not bad. Assumes nothing.
-use Prim.Native.Nat.{ℕ, zero, suc, _+_, _-_, _≤_, _<_}
+use Prim.Native.Nat.{ℕ, _+_, _-_, _≤_}
 use native.Mathlib.Omega.{arith}
 use mathlib.Core.Path.{_≡_, refl, sym, ap, _∙_, subst}
-use mathlib.Core.Bool.{Bool, true, false, cond, not, _&&_, _||_}
+use mathlib.Core.Bool.{Bool, true, false, cond, not, _||_, true≢false}
 use mathlib.Core.List.{List, [], _∷_, _++_, append-assoc}
 use lib.Dec.{eqb, ltb}
 use lib.IntN.{ℤ, pos}
@@ -36,7 +36,12 @@ not-bad-read h e =
 pub not-bad-make : (h : Held) → NotBad h → isBad h ≡ false
 unfolding isBad
 not-bad-make h g =
-    rw (le-ltb places (h .list .count) (g .few), le-ltb (length (h .memory)) places (g .enough), in-order-make (h .list .«min_duration») (stampsOf h) (g .order))
+    let ordered = in-order-make (h .list .«min_duration») (stampsOf h) (g .order) in
+    rw (le-ltb places (h .list .count) (g .few), le-ltb (length (h .memory)) places (g .enough), ordered)
+
+-- no operation refuses it by 15
+pub bad-not : {A : Type 0} (h : Held) → NotBad h → isBad h ≡ true → A
+bad-not h g e = absurd (true≢false (sym e ∙ not-bad-make h g))
 
 -- ---- memory whose first m places are written
 
@@ -53,12 +58,11 @@ module _ (front memory : List ℤ) (m : ℕ) (len : length front ≡ m) where
 
 -- ---- the rows of the refusals, one by one
 
-abbrev pub refusedBy : ℕ → Held → Turn
-refusedBy n h = record { number = n; after = h }
+-- an operation's number and the list that it leaves
+abbrev pub leaving : ℕ → Held → Turn
+leaving n after = record { number = n; after = after }
 
-abbrev pub accepted : Held → Turn
-accepted after = record { number = 0; after = after }
-
+-- a stamp equals one of the list or lies closer to one than the minimum; it is in the list
 abbrev pub isClose : Held → ℤ → Bool
 isClose h t = anyOf (tooClose (h .list .«min_duration») t) (stampsOf h)
 
@@ -66,35 +70,36 @@ abbrev pub isIn : Held → ℤ → Bool
 isIn h t = anyOf (same t) (stampsOf h)
 
 module _ (h : Held) (t : ℤ) (P : Turn → Type 0) where
-  pub add-rows : (isBad h ≡ true → P (refusedBy 15 h)) → (isBad h ≡ false → isClose h t ≡ true → P (refusedBy 17 h))
-      → (isBad h ≡ false → isClose h t ≡ false → h .list .count ≡ places → P (refusedBy 18 h))
-      → (isBad h ≡ false → isClose h t ≡ false → (h .list .count ≡ places → ⊥) → P (accepted (withStamp h t))) → P (added h t)
+  pub add-rows : (isBad h ≡ true → P (leaving 15 h)) → (isBad h ≡ false → isClose h t ≡ true → P (leaving 17 h))
+      → (isBad h ≡ false → isClose h t ≡ false → h .list .count ≡ places → P (leaving 18 h))
+      → (isBad h ≡ false → isClose h t ≡ false → (h .list .count ≡ places → ⊥) → P (leaving 0 (withStamp h t))) → P (added h t)
   unfolding added addNumber
   add-rows bad close full ok = by (isBad h) refl (isClose h t) refl (eqb (h .list .count) places) refl
     where
       by : (a : Bool) → isBad h ≡ a → (b : Bool) → isClose h t ≡ b → (c : Bool) → eqb (h .list .count) places ≡ c
-          → let n : ℕ = firstThat ((a, 15) ∷ (b, 17) ∷ (c, 18) ∷ []) in P (record { number = n; after = cond (eqb n 0) (withStamp h t) h })
+          → let n : ℕ = firstThat ((a, 15) ∷ (b, 17) ∷ (c, 18) ∷ []) in P (leaving n (cond (eqb n 0) (withStamp h t) h))
       by true p b q c r = bad p
       by false p true q c r = close p q
       by false p false q true r = full p q (eqb-true (h .list .count) places r)
       by false p false q false r = ok p q (eqb-false (h .list .count) places r)
 
-  pub remove-rows : (isBad h ≡ true → P (refusedBy 15 h)) → (isBad h ≡ false → isIn h t ≡ false → P (refusedBy 19 h))
-      → (isBad h ≡ false → isIn h t ≡ true → P (accepted (withoutStamp h t))) → P (removed h t)
+  pub remove-rows : (isBad h ≡ true → P (leaving 15 h)) → (isBad h ≡ false → isIn h t ≡ false → P (leaving 19 h))
+      → (isBad h ≡ false → isIn h t ≡ true → P (leaving 0 (withoutStamp h t))) → P (removed h t)
   unfolding removed removeNumber
   remove-rows bad out ok = by (isBad h) refl (isIn h t) refl
     where
       by : (a : Bool) → isBad h ≡ a → (b : Bool) → isIn h t ≡ b
-          → let n : ℕ = firstThat ((a, 15) ∷ (not b, 19) ∷ []) in P (record { number = n; after = cond (eqb n 0) (withoutStamp h t) h })
+          → let n : ℕ = firstThat ((a, 15) ∷ (not b, 19) ∷ []) in P (leaving n (cond (eqb n 0) (withoutStamp h t) h))
       by true p b q = bad p
       by false p true q = ok p q
       by false p false q = out p q
 
-pub empty-rows : (h : Held) (P : Turn → Type 0) → (isBad h ≡ true → P (refusedBy 15 h)) → (isBad h ≡ false → P (accepted (withoutStamps h))) → P (emptied h)
+pub empty-rows : (h : Held) (P : Turn → Type 0) → (isBad h ≡ true → P (leaving 15 h)) → (isBad h ≡ false → P (leaving 0 (withoutStamps h)))
+    → P (emptied h)
 unfolding emptied listNumber
 empty-rows h P bad ok = by (isBad h) refl
   where
-    by : (a : Bool) → isBad h ≡ a → let n : ℕ = firstThat ((a, 15) ∷ []) in P (record { number = n; after = cond (eqb n 0) (withoutStamps h) h })
+    by : (a : Bool) → isBad h ≡ a → let n : ℕ = firstThat ((a, 15) ∷ []) in P (leaving n (cond (eqb n 0) (withoutStamps h) h))
     by true p = bad p
     by false p = ok p
 
@@ -121,9 +126,10 @@ module _ (h : Held) (g : NotBad h) where
       → Left h (held (cutList (h .list .«min_duration») n) (stamps ++ (wiped ++ drop m (h .memory)))) stamps
   leaves n m stamps wiped len total small order =
       let front : length (stamps ++ wiped) ≡ m = omega (arith, length-append stamps wiped) in
+      let others = wiped ++ drop m (h .memory) in
       let joined = append-assoc stamps wiped (drop m (h .memory)) in
-      let are : take n (stamps ++ (wiped ++ drop m (h .memory))) ≡ stamps = take-at stamps (wiped ++ drop m (h .memory)) n len in
-      let long : length (stamps ++ (wiped ++ drop m (h .memory))) ≡ length (h .memory) = rw (← joined) (put-length (stamps ++ wiped) (h .memory) m front (omega (arith, g .enough))) in
+      let are : take n (stamps ++ others) ≡ stamps = take-at stamps others n len in
+      let long : length (stamps ++ others) ≡ length (h .memory) = rw (← joined) (put-length (stamps ++ wiped) (h .memory) m front (omega (arith, g .enough))) in
       record {
         stamps-are = are;
         not-bad = record { few = omega arith; enough = omega (arith, g .enough); order = rw are order };
@@ -135,14 +141,16 @@ module _ (h : Held) (g : NotBad h) where
   pub add-leaves : (t : ℤ) → isClose h t ≡ false → (h .list .count ≡ places → ⊥) → Left h (withStamp h t) (inserted t (stampsOf h))
   unfolding withStamp
   add-leaves t clear room =
-      leaves (h .list .count + 1) (h .list .count + 1) (inserted t (stampsOf h)) [] (omega (arith, insert-length t (stampsOf h), count-is)) (omega arith)
-      (omega (arith, g .few)) (insert-sorted t (h .list .«min_duration») (stampsOf h) (g .order) clear)
+      leaves (h .list .count + 1) (h .list .count + 1) (inserted t (stampsOf h)) []
+      (omega (arith, insert-length t (stampsOf h), count-is)) (omega arith) (omega (arith, g .few))
+      (insert-sorted t (h .list .«min_duration») (stampsOf h) (g .order) clear)
 
   pub remove-leaves : (t : ℤ) → isIn h t ≡ true → Left h (withoutStamp h t) (leaveOut (same t) (stampsOf h))
   unfolding withoutStamp
   remove-leaves t there =
       let one = leave-length (h .list .«min_duration») t (stampsOf h) (g .order) there in
-      leaves (h .list .count - 1) (h .list .count) (leaveOut (same t) (stampsOf h)) (pos 0 ∷ []) (omega (arith, count-is)) (omega (arith, count-is)) (g .few)
+      leaves (h .list .count - 1) (h .list .count) (leaveOut (same t) (stampsOf h)) (pos 0 ∷ [])
+      (omega (arith, count-is)) (omega (arith, count-is)) (g .few)
       (leave-sorted (same t) (h .list .«min_duration») (stampsOf h) (g .order))
 
   pub empty-leaves : Left h (withoutStamps h) []

@@ -1,9 +1,9 @@
 -- THE THEOREM: what `specs/Claim.antt` states holds of every list of operations, from a new list and memory of at least 512 places. Assumes nothing
 -- else.
-use Prim.Native.Nat.{ℕ, zero, suc, _+_, _≤_, _<_}
+use Prim.Native.Nat.{ℕ, zero, suc, _≤_, _<_}
 use native.Mathlib.Omega.{arith}
 use mathlib.Core.Path.{_≡_, refl, sym, ap, _∙_, subst}
-use mathlib.Core.Bool.{Bool, true, false, cond, true≢false}
+use mathlib.Core.Bool.{Bool, false, cond}
 use mathlib.Core.List.{List, [], _∷_}
 use lib.Dec.{T, eqb}
 use lib.IntN.{ℤ, pos, _+ℤ_}
@@ -11,13 +11,13 @@ use lib.ListN.{length, getD, drop}
 use lib.Signed.{_≤ℤ_, _<ℤ_, ltZ-yes}
 use Rattle.laws.specs.Lists.{All, leaveOut}
 use Rattle.laws.proofs.Whole.{sum-read, le-make}
-use Rattle.cut_list.specs.Record.{places, Held, held, newList, stampsOf, isBad}
+use Rattle.cut_list.specs.Record.{places, Held, held, newList, stampsOf}
 use Rattle.cut_list.specs.Change.{Turn, same, anyOf, inserted, withStamp, withoutStamp, listNumber, withoutStamps}
 use Rattle.cut_list.specs.Find.{nearestIn, spanIn, clipIn}
 use Rattle.cut_list_claim.specs.Run.{Operation, add, remove, empty, nearest, span, clip, operated, Operated, listRun, listAfter, heldAfter, addedSince}
 use Rattle.cut_list_claim.specs.Claim.{Apart, ListClaim}
 use Rattle.cut_list_claim.proofs.Order.{Follows, Sorted, lt-ltZ, insert-any, leave-any}
-use Rattle.cut_list_claim.proofs.Steps.{NotBad, not-bad-make, Left, refusedBy, accepted, isIn, number-none, add-rows, add-leaves, remove-rows, remove-leaves, empty-rows, empty-leaves}
+use Rattle.cut_list_claim.proofs.Steps.{NotBad, not-bad-make, bad-not, Left, leaving, isIn, number-none, add-rows, add-leaves, remove-rows, remove-leaves, empty-rows, empty-leaves}
 
 -- what an operation keeps
 record Kept (h : Held) (o : Operation) (y : Turn) : Type 0 where
@@ -29,12 +29,13 @@ record Kept (h : Held) (o : Operation) (y : Turn) : Type 0 where
 
 module _ (h : Held) (g : NotBad h) where
   -- the list stays as it was
-  stayed : (o : Operation) (n : ℕ) → (n ≡ 15 → ⊥) → ((t : ℤ) → isIn h t ≡ cond (eqb n 0) (heldAfter t (isIn h t) o) (isIn h t)) → Kept h o (refusedBy n h)
+  stayed : (o : Operation) (n : ℕ) → (n ≡ 15 → ⊥) → ((t : ℤ) → isIn h t ≡ cond (eqb n 0) (heldAfter t (isIn h t) o) (isIn h t))
+      → Kept h o (leaving n h)
   stayed o n other same-members = record { no-15 = other; not-bad = g; minimum = refl; rest = refl; members = same-members }
 
   -- an accepted operation left these stamps
   changed : (o : Operation) (after : Held) (stamps : List ℤ) → Left h after stamps → ((t : ℤ) → anyOf (same t) stamps ≡ heldAfter t (isIn h t) o)
-      → Kept h o (accepted after)
+      → Kept h o (leaving 0 after)
   changed o after stamps l new-members =
       record {
         no-15 = omega arith;
@@ -44,25 +45,28 @@ module _ (h : Held) (g : NotBad h) where
         members = λ t. ap (anyOf (same t)) (l .stamps-are) ∙ new-members t;
       }
 
-  bad-not : {A : Type 0} → isBad h ≡ true → A
-  bad-not e = absurd (true≢false (sym e ∙ not-bad-make h g))
-
   -- a reader's number is 0, and it leaves the list as it was
-  read : (o : Operation) (n : ℕ) → n ≡ 0 → ((t : ℤ) (was : Bool) → was ≡ heldAfter t was o) → Kept h o (refusedBy n h)
+  read : (o : Operation) (n : ℕ) → n ≡ 0 → ((t : ℤ) (was : Bool) → was ≡ heldAfter t was o) → Kept h o (leaving n h)
   read o n e same-members = rw e (stayed o 0 (omega arith) (λ t. same-members t (isIn h t)))
 
   none : listNumber h ≡ 0
   none = number-none h (not-bad-make h g)
 
+  abbrev stamps : List ℤ
+  stamps = stampsOf h
+
   kept : (o : Operation) → Kept h o (operated h o)
   unfolding nearestIn spanIn clipIn anyOf
   kept (add t) =
-      add-rows h t (Kept h (add t)) bad-not (λ _ _. stayed (add t) 17 (omega arith) (λ _. refl)) (λ _ _ _. stayed (add t) 18 (omega arith) (λ _. refl))
-      (λ _ clear room. changed (add t) (withStamp h t) (inserted t (stampsOf h)) (add-leaves h g t clear room) (λ s. insert-any t (same s) (stampsOf h)))
+      add-rows h t (Kept h (add t)) (bad-not h g)
+      (λ _ _. stayed (add t) 17 (omega arith) (λ _. refl))
+      (λ _ _ _. stayed (add t) 18 (omega arith) (λ _. refl))
+      (λ _ clear room. changed (add t) (withStamp h t) (inserted t stamps) (add-leaves h g t clear room) (λ s. insert-any t (same s) stamps))
   kept (remove t) =
-      remove-rows h t (Kept h (remove t)) bad-not (λ _ _. stayed (remove t) 19 (omega arith) (λ _. refl))
-      (λ _ there. changed (remove t) (withoutStamp h t) (leaveOut (same t) (stampsOf h)) (remove-leaves h g t there) (λ s. leave-any s t (stampsOf h)))
-  kept empty = empty-rows h (Kept h empty) bad-not (λ _. changed empty (withoutStamps h) [] (empty-leaves h g) (λ s. refl))
+      remove-rows h t (Kept h (remove t)) (bad-not h g)
+      (λ _ _. stayed (remove t) 19 (omega arith) (λ _. refl))
+      (λ _ there. changed (remove t) (withoutStamp h t) (leaveOut (same t) stamps) (remove-leaves h g t there) (λ s. leave-any s t stamps))
+  kept empty = empty-rows h (Kept h empty) (bad-not h g) (λ _. changed empty (withoutStamps h) [] (empty-leaves h g) (λ s. refl))
   kept (nearest t) = read (nearest t) (listNumber h) none (λ _ _. refl)
   kept (span a b) = read (span a b) (listNumber h) none (λ _ _. refl)
   kept (clip t) = read (clip t) (listNumber h) none (λ _ _. refl)
@@ -110,7 +114,7 @@ sorted-apart d (x ∷ xs) s (suc i) (suc j) a b = sorted-apart d xs (s .1) i j (
 
 -- ---- the theorem
 
-new-not-bad : (minimum : ℕ) (memory : List ℤ) → places ≤ length memory → NotBad (held (newList minimum) memory)
+pub new-not-bad : (minimum : ℕ) (memory : List ℤ) → places ≤ length memory → NotBad (held (newList minimum) memory)
 unfolding newList
 new-not-bad d memory long = record { few = omega arith; enough = long; order = tt }
 
