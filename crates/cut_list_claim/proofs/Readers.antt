@@ -125,6 +125,14 @@ module _ (h : Held) (fine : isBad h ≡ false) (t : ℤ) where
   unfolding spanIn clipIn
   span-is-clip x xs e = rw fine (span-from x xs e .number)
 
+  span-starts : (x : ℤ) (xs : List ℤ) → stampsOf h ≡ x ∷ xs → spanIn h x t .first ≡ 0
+  unfolding spanIn
+  span-starts x xs e = rw fine (span-from x xs e .start)
+
+  nearest-is-there : (x : ℤ) (xs : List ℤ) → stampsOf h ≡ x ∷ xs → (s : Timestamp) × (nearestIn h t .nearest ≡ At s)
+  unfolding nearestIn nearestOf
+  nearest-is-there x xs e = (record { micros = nearestFrom t x xs }, rw (fine, e) refl)
+
   nearest-found : (s : Timestamp) → nearestIn h t .nearest ≡ At s → IsNearest t (stampsOf h) (s .micros)
   unfolding nearestIn
   nearest-found s e = nearest-is t (h .list .«min_duration») (stampsOf h) s (sorted h (sound h fine)) (rw fine at e)
@@ -133,6 +141,8 @@ pub readers-agree : (h : Held) → isBad h ≡ false → (t : ℤ) → ReadersAg
 readers-agree h fine t =
     record {
       span-is-clip = span-is-clip h fine t;
+      span-starts = span-starts h fine t;
+      nearest-is-there = nearest-is-there h fine t;
       nearest-is-in = λ s e. nearest-found h fine t s e .is-in;
       nearest-is-least = λ s e. nearest-found h fine t s e .least;
       earliest-on-tie = λ s e. nearest-found h fine t s e .earliest;
