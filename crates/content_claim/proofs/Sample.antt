@@ -8,7 +8,7 @@ use lib.Ieee.{add, mul, div, le, ne, ofInt, isNan}
 use Rattle.laws.specs.Lists.{tabulate, sum}
 use Rattle.timestamp.specs.declared.Timestamp.{Timestamp}
 use Rattle.timestamp.specs.declared.MaybeTimestamp.the-variants.{None, At}
-use Rattle.timestamp.specs.Stamps.{durationSince, saturatingSub}
+use Rattle.timestamp.specs.Stamps.{distance, durationSince, saturatingSub}
 use Rattle.frame.specs.Checks.{planeRefusal, lumaRefusal}
 use Rattle.arch_planes.specs.Difference.{sumAbsDiff, meanOf}
 use Rattle.arch_planes.specs.Packed.{packed}
@@ -49,5 +49,5 @@ unfolding tabulate sum sumAbsDiff meanOf packed at pixel short lines seen planeR
 views = refl
 
 cuts : answers (map (withCut defaults) (contentRun defaults lines)) ≡ None ∷ At (at 400000) ∷ None ∷ None ∷ None ∷ []
-unfolding tabulate sum sumAbsDiff meanOf packed at pixel short lines planeRefusal lumaRefusal memoryRefusal sumAbs weighed scoreOf edgesEnabled componentsOf lumaFrame frameSums add mul div le ne ofInt isNan settingsRefusal anyTooHeavy tooHeavy allZero badState callRefusal accepted pictured stepped isScored nextStream durationSince saturatingSub virtualSeed seeded minLengthMet numMerged mergeHeld mergeFree filterMerge flashFilter
+unfolding tabulate sum sumAbsDiff meanOf packed at pixel short lines planeRefusal lumaRefusal memoryRefusal sumAbs weighed scoreOf edgesEnabled componentsOf lumaFrame frameSums add mul div le ne ofInt isNan settingsRefusal anyTooHeavy tooHeavy allZero badState callRefusal accepted pictured stepped isScored nextStream distance durationSince saturatingSub virtualSeed seeded minLengthMet numMerged mergeHeld mergeFree filterMerge flashFilter
 cuts = refl

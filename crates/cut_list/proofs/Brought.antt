@@ -14,8 +14,8 @@ use lib.Signed.{ltZ}
 use Rattle.laws.specs.Lists.{leaveOut}
 use Rattle.laws.proofs.Bools.{or-false}
 use Rattle.cut_list.specs.declared.CutList.{CutList}
-use Rattle.cut_list.specs.Record.{places, Held, held, cutList, stampsOf, follows, inOrder, isBad}
-use Rattle.cut_list.specs.Change.{turned, same, tooClose, anyOf, inserted, addNumber, withStamp, added, removeNumber, withoutStamp, removed, listNumber, withoutStamps, emptied}
+use Rattle.cut_list.specs.Record.{places, Held, held, cutList, stampsOf, follows, inOrder, isBad, listNumber}
+use Rattle.cut_list.specs.Change.{turned, same, tooClose, anyOf, inserted, addNumber, withStamp, added, removeNumber, withoutStamp, removed, withoutStamps, emptied}
 use Rattle.timestamp.specs.declared.Timestamp.{Timestamp}
 use Rattle.timestamp.specs.declared.MaybeTimestamp.the-variants.{None, At}
 use Rattle.cut_list.specs.Find.{nearestOf, nearestIn, spanIn, clipOf, clipIn}

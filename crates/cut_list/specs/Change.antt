@@ -10,7 +10,7 @@ use Rattle.laws.specs.Lists.{leaveOut}
 use Rattle.frame.specs.Refusal.{firstThat}
 use Rattle.timestamp.specs.Stamps.{distance}
 use Rattle.cut_list.specs.declared.CutList.{CutList}
-use Rattle.cut_list.specs.Record.{places, Held, held, cutList, stampsOf, isBad}
+use Rattle.cut_list.specs.Record.{places, Held, held, cutList, stampsOf, isBad, listNumber}
 
 -- what an operation that may change a list leaves: its number, 0 or that of a refusal, and the list after it
 pub record Turn : Type 0 where
@@ -20,7 +20,7 @@ pub record Turn : Type 0 where
 abbrev pub turned : (number : ℕ) → CutList → List ℤ → Turn
 turned n l m = record { number = n; after = held l m }
 
--- refused, the record and every place of the memory are as they were (RULES 17.11)
+-- refused, the record and every place of the memory are as they were (RULES 17.10)
 abbrev pub orRefused : (number : ℕ) → (before after : Held) → Turn
 orRefused n h after = record { number = n; after = cond (eqb n 0) after h }
 
@@ -77,10 +77,6 @@ unfoldable pub removed : Held → ℤ → Turn
 removed h t = orRefused (removeNumber h t) h (withoutStamp h t)
 
 -- ---- empty
-
--- 15, or 0: the number of an operation that nothing but a bad list refuses (RULES 17.3)
-unfoldable pub listNumber : Held → ℕ
-listNumber h = firstThat ((isBad h, 15) ∷ [])
 
 -- a list without stamps: its minimum stays, its count is 0, and so are the places that held its stamps; the others keep their contents
 -- (RULES 17.6)

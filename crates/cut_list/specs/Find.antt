@@ -12,8 +12,7 @@ use Rattle.timestamp.specs.Stamps.{distance}
 use Rattle.cut_list.specs.declared.NearestStamp.{NearestStamp}
 use Rattle.cut_list.specs.declared.StampsWithin.{StampsWithin}
 use Rattle.cut_list.specs.declared.ClipOfStamp.{ClipOfStamp}
-use Rattle.cut_list.specs.Record.{Held, stampsOf, isBad}
-use Rattle.cut_list.specs.Change.{listNumber}
+use Rattle.cut_list.specs.Record.{Held, stampsOf, isBad, listNumber}
 
 -- ---- nearest
 

@@ -7,6 +7,7 @@ use lib.Dec.{ltb}
 use lib.IntN.{ℤ, pos, _+ℤ_}
 use lib.ListN.{length, take}
 use lib.Signed.{leZ, ltZ}
+use Rattle.frame.specs.Refusal.{firstThat}
 use Rattle.cut_list.specs.declared.CutList.{CutList}
 
 -- how many stamps a list holds at most, which is also how many places of the memory are the list's (RULES 17.1)
@@ -47,3 +48,7 @@ inOrder d (x ∷ y ∷ ys) = follows d x y && inOrder d (y ∷ ys)
 -- 15: the count is over 512, the memory has under 512 places, or the stamps do not rise or are closer than the minimum (RULES 17.3)
 unfoldable pub isBad : Held → Bool
 isBad h = ltb places (h .list .count) || ltb (length (h .memory)) places || not (inOrder (h .list .«min_duration») (stampsOf h))
+
+-- 15, or 0: the number of an operation that nothing but a bad list refuses (RULES 17.3)
+unfoldable pub listNumber : Held → ℕ
+listNumber h = firstThat ((isBad h, 15) ∷ [])

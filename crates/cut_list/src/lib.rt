@@ -27,7 +27,7 @@ pub struct CutList {
     pub count: usize,
 }
 
-// What add, remove and empty return: 0, or the number of the refusal and the record as it was.
+// What add, remove and empty return: 0 and the record after it, or the number of the refusal and the record as it was.
 pub struct Changed {
     pub number: u32,
     pub list: CutList,

@@ -4,7 +4,7 @@ use Prim.Native.Nat.{ℕ, suc, _+_, _-_, _≤_, min}
 use native.Mathlib.Nat.{zero-min, min-zero, suc-min-suc, zero-sub, sub-zero, suc-sub-suc}
 use native.Mathlib.Omega.{arith}
 use mathlib.Core.Path.{_≡_, refl, sym, ap, _∙_, subst}
-use mathlib.Core.Bool.{false, true≢false}
+use mathlib.Core.Bool.{false, true≢false, true}
 use mathlib.Core.List.{List, [], _∷_, _++_, map}
 use lib.IntN.{ℤ, pos, _+ℤ_}
 use lib.ListN.{length, replicate}
@@ -23,14 +23,14 @@ use Rattle.content.specs.declared.Options.{Options}
 use Rattle.content.specs.Options.{filterOptions, optionsRefusal}
 use Rattle.content_claim.specs.Claim.{contentRun, withCut}
 use Rattle.content_claim.proofs.Theorem.{content-claim}
-use Rattle.cut_list.specs.Record.{places, Held, held, newList, stampsOf}
+use Rattle.cut_list.specs.Record.{places, Held, held, newList, stampsOf, inOrder}
 use Rattle.cut_list.specs.Change.{tooClose, withStamp}
 use Rattle.cut_list.proofs.Tests.{Past}
 use Rattle.cut_list.proofs.Order.{anyOf-none, all-past}
 use Rattle.cut_list.proofs.Brought.{Sound}
 use Rattle.cut_list_claim.specs.Run.{add, Operated, listRun}
 use Rattle.cut_list_claim.specs.Claim.{FitsList}
-use Rattle.cut_list_claim.proofs.Order.{Sorted, past-clear, insert-all}
+use Rattle.cut_list_claim.proofs.Order.{Sorted, in-order-read, past-clear, insert-all}
 use Rattle.cut_list_claim.proofs.Steps.{bad-not, isClose, add-rows, add-leaves}
 use Rattle.cut_list_claim.proofs.Theorem.{new-sound}
 
@@ -122,11 +122,19 @@ add-all : (d : ℕ) (ts : List ℤ) → Sorted d ts → (room : ℕ) (h : Held) 
 add-all d [] s room h o = fitting-none room
 add-all d (t ∷ ts) s room h o = add-one d t ts (s .0) room h o (λ k next p. add-all d ts (s .1) k next p)
 
-pub keeps-fit : (d : ℕ) → 1 ≤ d → (memory : List ℤ) → places ≤ length memory → (ts : List ℤ) → KeepsDistance d ts → FitsList d memory ts
+-- stamps in order go into an empty list, whatever its minimum
+sorted-fit : (d : ℕ) (memory : List ℤ) → places ≤ length memory → (ts : List ℤ) → Sorted d ts → FitsList d memory ts
 unfolding newList
-keeps-fit d one memory long ts k =
-    add-all d ts (keeps-sorted d one ts k) places (held (newList d) memory)
+sorted-fit d memory long ts s =
+    add-all d ts s places (held (newList d) memory)
     (record { sound = new-sound d memory long; minimum = refl; room-is = omega arith; followed-by = tt })
+
+pub ordered-fit : (d : ℕ) (memory : List ℤ) → places ≤ length memory → (ts : List ℤ) → inOrder d ts ≡ true → FitsList d memory ts
+ordered-fit d memory long ts o = sorted-fit d memory long ts (in-order-read d ts o)
+
+-- and so do stamps that keep a distance of at least 1
+pub keeps-fit : (d : ℕ) → 1 ≤ d → (memory : List ℤ) → places ≤ length memory → (ts : List ℤ) → KeepsDistance d ts → FitsList d memory ts
+keeps-fit d one memory long ts k = sorted-fit d memory long ts (keeps-sorted d one ts k)
 
 -- ---- the cuts of a stretch
 

@@ -17,8 +17,8 @@ use Rattle.cut_list.specs.declared.CutList.{CutList}
 use Rattle.cut_list.specs.declared.NearestStamp.{NearestStamp}
 use Rattle.cut_list.specs.declared.StampsWithin.{StampsWithin}
 use Rattle.cut_list.specs.declared.ClipOfStamp.{ClipOfStamp}
-use Rattle.cut_list.specs.Record.{places, Held, held, stampsOf, inOrder, isBad}
-use Rattle.cut_list.specs.Change.{Turn, orRefused, same, anyOf, tooClose, addNumber, inserted, withStamp, added, removeNumber, withoutStamp, removed, listNumber, withoutStamps, emptied}
+use Rattle.cut_list.specs.Record.{places, Held, held, stampsOf, inOrder, isBad, listNumber}
+use Rattle.cut_list.specs.Change.{Turn, orRefused, same, anyOf, tooClose, addNumber, inserted, withStamp, added, removeNumber, withoutStamp, removed, withoutStamps, emptied}
 use Rattle.cut_list.specs.Find.{nearestOf, nearestIn, spanStart, howMany, within, spanIn, clipOf, clipIn}
 use Rattle.cut_list.proofs.Brought.{sound}
 use Rattle.cut_list_claim.specs.Run.{Operation, add, remove, empty, nearest, span, clip, operated}

@@ -4,8 +4,8 @@ use mathlib.Core.List.{List, [], _∷_, map}
 use lib.IntN.{pos, negsuc}
 use lib.ListN.{replicate}
 use Rattle.timestamp.specs.Stamps.{distance}
-use Rattle.cut_list.specs.Record.{places, Held, held, newList, stampsOf, follows, inOrder, isBad}
-use Rattle.cut_list.specs.Change.{tooClose, anyOf, addNumber, inserted, withStamp, added, removeNumber, withoutStamp, removed, listNumber}
+use Rattle.cut_list.specs.Record.{places, Held, held, newList, stampsOf, follows, inOrder, isBad, listNumber}
+use Rattle.cut_list.specs.Change.{tooClose, anyOf, addNumber, inserted, withStamp, added, removeNumber, withoutStamp, removed}
 use Rattle.cut_list.specs.Find.{nearestIn}
 use Rattle.cut_list_claim.specs.Run.{Operation, add, remove, nearest, Operated, listRun, listAfter}
 

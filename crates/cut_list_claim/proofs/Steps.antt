@@ -11,8 +11,8 @@ use lib.Seq.{length-take-le, take-at, drop-append-add, drop-drop}
 use borrow.Author.Tests.{eqb-true, eqb-false, le-ltb}
 use Rattle.laws.specs.Lists.{leaveOut}
 use Rattle.frame.specs.Refusal.{firstThat}
-use Rattle.cut_list.specs.Record.{places, Held, held, cutList, stampsOf, isBad}
-use Rattle.cut_list.specs.Change.{Turn, same, tooClose, anyOf, addNumber, inserted, withStamp, added, removeNumber, withoutStamp, removed, listNumber, withoutStamps, emptied}
+use Rattle.cut_list.specs.Record.{places, Held, held, cutList, stampsOf, isBad, listNumber}
+use Rattle.cut_list.specs.Change.{Turn, same, tooClose, anyOf, addNumber, inserted, withStamp, added, removeNumber, withoutStamp, removed, withoutStamps, emptied}
 use Rattle.cut_list.proofs.Brought.{Sound}
 use Rattle.cut_list_claim.proofs.Order.{Sorted, in-order-read, in-order-make, insert-sorted, insert-length, leave-sorted, leave-length}
 

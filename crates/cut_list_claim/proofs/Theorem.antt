@@ -12,8 +12,8 @@ use lib.Signed.{_≤ℤ_, _<ℤ_, ltZ-yes}
 use Rattle.laws.specs.Lists.{All, leaveOut}
 use Rattle.laws.proofs.All.{all-at}
 use Rattle.laws.proofs.Whole.{sum-read, le-make, lt-ltZ}
-use Rattle.cut_list.specs.Record.{places, Held, held, newList, stampsOf, inOrder}
-use Rattle.cut_list.specs.Change.{Turn, same, anyOf, inserted, withStamp, withoutStamp, listNumber, withoutStamps}
+use Rattle.cut_list.specs.Record.{places, Held, held, newList, stampsOf, inOrder, listNumber}
+use Rattle.cut_list.specs.Change.{Turn, same, anyOf, inserted, withStamp, withoutStamp, withoutStamps}
 use Rattle.cut_list.specs.Find.{nearestIn, spanIn, clipIn}
 use Rattle.cut_list.proofs.Tests.{Past}
 use Rattle.cut_list.proofs.Brought.{Sound}

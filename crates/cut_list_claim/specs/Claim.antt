@@ -1,5 +1,5 @@
--- What holds of every list of operations on a list of stamps (RULES 17.11), of the cuts that go into one (RULES 17.12), and of the readers
--- together (RULES 17.13).
+-- What holds of every list of operations on a list of stamps (RULES 17.11), of the cuts that go into one (RULES 17.12), of the places from 512
+-- on (RULES 17.10), and of the readers together (RULES 17.13).
 use Prim.Native.Nat.{ℕ, _-_, _≤_, _<_, min}
 use mathlib.Core.Path.{_≡_}
 use mathlib.Core.Bool.{true, false}
@@ -28,7 +28,7 @@ pub record ListClaim (minimum : ℕ) (memory : List ℤ) (os : List Operation) :
   pub never-bad : All (λ (y : Operated). (y .number ≡ 15) → ⊥) (listRun (held (newList minimum) memory) os)
   -- the stamps rise and keep the distance
   pub apart : Apart minimum (stampsOf (listAfter (held (newList minimum) memory) os))
-  -- a stamp is in the list exactly if it was added and not removed since
+  -- a stamp is in the list exactly if it was added and neither removed nor emptied out since
   pub members : (t : ℤ) → anyOf (same t) (stampsOf (listAfter (held (newList minimum) memory) os)) ≡ addedSince t false (listRun (held (newList minimum) memory) os)
   -- the minimum stays, and so do the places from 512 on
   pub minimum-stays : listAfter (held (newList minimum) memory) os .list .«min_duration» ≡ minimum

@@ -41,7 +41,7 @@ abbrev pub listAfter : Held → List Operation → Held
 listAfter h [] = h
 listAfter h (o ∷ os) = listAfter (operated h o .after) os
 
--- ---- the stamps added and not removed since, said of the operations and their numbers alone
+-- ---- the stamps added and neither removed nor emptied out since, said of the operations and their numbers alone
 
 -- whether a stamp is among those after an accepted operation, by whether it was before: adding it puts it in, removing it or emptying the list
 -- takes it out, and nothing else touches it
@@ -53,7 +53,7 @@ heldAfter t was (nearest s) = was
 heldAfter t was (span a b) = was
 heldAfter t was (clip s) = was
 
--- whether a stamp was added, and not removed since, in a list of operations; a refused operation counts for nothing
+-- whether a stamp was added, and neither removed nor emptied out since, in a list of operations; a refused operation counts for nothing
 abbrev pub addedSince : ℤ → (was : Bool) → List Operated → Bool
 addedSince t was [] = was
 addedSince t was (y ∷ ys) = addedSince t (cond (eqb (y .number) 0) (heldAfter t was (y .operation)) was) ys

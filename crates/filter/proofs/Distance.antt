@@ -9,7 +9,7 @@ use lib.Signed.{_≤ℤ_, ≤ℤ-refl, leZ}
 use Rattle.timestamp.specs.declared.Timestamp.{Timestamp}
 use Rattle.timestamp.specs.declared.MaybeTimestamp.{MaybeTimestamp}
 use Rattle.timestamp.specs.declared.MaybeTimestamp.the-variants.{None, At}
-use Rattle.timestamp.specs.Stamps.{durationSince}
+use Rattle.timestamp.specs.Stamps.{distance, durationSince}
 use Rattle.laws.proofs.Whole.{whole, sum-read, minus-read, natAbs-read}
 use Rattle.filter.specs.declared.FilterMode.the-variants.{Merge}
 use Rattle.filter.specs.declared.FilterOptions.{FilterOptions}
@@ -53,7 +53,7 @@ module _ (o : FilterOptions) where
 
   -- merged for the minimum
   merged-for : (t u : Timestamp) → (u .micros) ≤ℤ (t .micros) → leb d (numMerged t (At u)) ≡ true → (u .micros +ℤ pos d) ≤ℤ (t .micros)
-  unfolding numMerged durationSince
+  unfolding numMerged durationSince distance
   merged-for t u h e =
       let a = t .micros in
       let b = u .micros in

@@ -10,7 +10,7 @@ use borrow.Author.Tests.{lt-ltb, le-ltb}
 use Rattle.timestamp.specs.declared.Timestamp.{Timestamp}
 use Rattle.timestamp.specs.declared.Since.{Since}
 use Rattle.timestamp.specs.declared.Since.the-variants.{Earlier, Micros}
-use Rattle.timestamp.specs.Stamps.{durationSince}
+use Rattle.timestamp.specs.Stamps.{distance, durationSince}
 use Rattle.laws.proofs.Whole.{whole, sum-read, abs-down}
 use Rattle.cut_list.specs.Record.{follows}
 use Rattle.cut_list.proofs.follows.Statement.{statement}
@@ -43,7 +43,7 @@ module _ (earlier ts : ℤ) (d : ℕ) where
 
 -- the test by the difference is the test by the sum
 past-is : (d : ℕ) (earlier ts : Timestamp) → past d (durationSince ts earlier) ≡ follows d (earlier .micros) (ts .micros)
-unfolding durationSince follows
+unfolding durationSince distance follows
 past-is d earlier ts = by-order (earlier .micros) (ts .micros) d (leZ (earlier .micros) (ts .micros)) refl
 
 duration-since-requires : tie.Need-duration-since-requires

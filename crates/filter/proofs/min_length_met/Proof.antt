@@ -8,7 +8,7 @@ use lib.Signed.{leZ}
 use Rattle.timestamp.specs.declared.Timestamp.{Timestamp}
 use Rattle.timestamp.specs.declared.Since.{Since}
 use Rattle.timestamp.specs.declared.Since.the-variants.{Earlier, Micros}
-use Rattle.timestamp.specs.Stamps.{durationSince}
+use Rattle.timestamp.specs.Stamps.{distance, durationSince}
 use Rattle.laws.proofs.Whole.{whole, sum-read, minus-read, natAbs-read}
 use Rattle.filter.specs.declared.FilterOptions.{FilterOptions}
 use Rattle.filter.specs.Flash.{minLengthMet}
@@ -38,7 +38,7 @@ module _ (last ts : ℤ) (d : ℕ) where
 
 -- the test by the difference is the test by the sum
 met-is : (o : FilterOptions) (last ts : Timestamp) → lasts (o .«min_duration») (durationSince ts last) ≡ minLengthMet o last ts
-unfolding durationSince minLengthMet
+unfolding durationSince distance minLengthMet
 met-is o last ts = by-order (last .micros) (ts .micros) (o .«min_duration») (leZ (last .micros) (ts .micros)) refl
 
 duration-since-requires : tie.Need-duration-since-requires

@@ -9,7 +9,7 @@ use mir.Syntax.{w64}
 use mir.ValLaws.{toZ-ofZ}
 use Rattle.timestamp.specs.declared.Timestamp.{Timestamp}
 use Rattle.timestamp.specs.declared.Since.the-variants.{Earlier, Micros}
-use Rattle.timestamp.specs.Stamps.{durationSince}
+use Rattle.timestamp.specs.Stamps.{distance, durationSince}
 use Rattle.laws.proofs.Whole.{whole, sum-read, minus-read}
 use Rattle.timestamp.proofs.duration_since.Statement.{statement}
 use Rattle.timestamp.proofs.duration_since.Tie as tie
@@ -17,7 +17,7 @@ use Rattle.timestamp.proofs.duration_since.Tie as tie
 -- both stamps raised by k
 module _ (ts e : Timestamp) (a b k : ℕ) (p : pos a ≡ ts .micros +ℤ pos k) (q : pos b ≡ e .micros +ℤ pos k) where
   past : b ≤ a → Micros (a - b) ≡ durationSince ts e
-  unfolding durationSince
+  unfolding durationSince distance
   past h =
       let s₁ = sum-read (ts .micros) (pos k) in
       let s₂ = sum-read (e .micros) (pos k) in
@@ -26,7 +26,7 @@ module _ (ts e : Timestamp) (a b k : ℕ) (p : pos a ≡ ts .micros +ℤ pos k) 
       rw (test, diff)
 
   before : a < b → Earlier ≡ durationSince ts e
-  unfolding durationSince
+  unfolding durationSince distance
   before h =
       let test : leZ (e .micros) (ts .micros) ≡ false = omega (whole, sum-read (ts .micros) (pos k), sum-read (e .micros) (pos k)) in
       rw test

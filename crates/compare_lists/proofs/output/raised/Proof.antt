@@ -5,7 +5,7 @@ use mathlib.Core.Path.{_≡_, refl, sym, ap, _∙_}
 use Prim.Native.Nat.{ℕ}
 use lib.IntN.{natAbs, _-ℤ_}
 use lib.Signed.{leZ}
-use Rattle.timestamp.specs.Stamps.{least, durationSince}
+use Rattle.timestamp.specs.Stamps.{least, distance, durationSince}
 use Rattle.timestamp.specs.declared.Timestamp.{Timestamp}
 use Rattle.timestamp.specs.declared.Since.{Since}
 use Rattle.timestamp.specs.declared.Since.the-variants.{Earlier, Micros}
@@ -22,7 +22,7 @@ by-test true n = refl
 by-test false n = refl
 
 raised-is : (t : Timestamp) (s : Since) → s ≡ durationSince t (record { micros = least }) → micros s ≡ raisedOf t
-unfolding durationSince raisedOf
+unfolding durationSince distance raisedOf
 raised-is t s e = ap micros e ∙ by-test (leZ least (t .micros)) (natAbs (t .micros -ℤ least))
 
 duration-since-requires : tie.Need-duration-since-requires
