@@ -90,14 +90,14 @@ pub fn nearest(list: &[u64; 3], stamps: &[i64], ts: i64, answer: &mut [u64; 2]) 
     ensures { λ r. ⌜ NearestContract (nearestIn (held (listOf (now (list .entry))) (now (stamps .entry))) ts) r (now (answer .entry)) (now (answer .exit)) ⌝ }
 {
     let x = cut_list::nearest(read(list), stamps, Timestamp { micros: ts });
-    let number = x.number;
-    if number == 0 {
+    let nearest_number = x.number;
+    if nearest_number == 0 {
         let n = x.nearest;
         let w = [words::stamp_tag(n), words::stamp_word(n)];
         words::copy(answer, &w);
-        return number;
+        return nearest_number;
     }
-    number
+    nearest_number
 }
 
 // The stamps from one stamp to another, both ends counted: the place of the first, from 0, and how many they are.
@@ -110,13 +110,13 @@ pub fn span(list: &[u64; 3], stamps: &[i64], from: i64, to: i64, answer: &mut [u
         Timestamp { micros: from },
         Timestamp { micros: to },
     );
-    let number = x.number;
-    if number == 0 {
+    let span_number = x.number;
+    if span_number == 0 {
         let w = [x.first as u64, x.count as u64];
         words::copy(answer, &w);
-        return number;
+        return span_number;
     }
-    number
+    span_number
 }
 
 // The clip of a stamp: how many stamps of the list are at or before it.
@@ -124,11 +124,11 @@ pub fn clip(list: &[u64; 3], stamps: &[i64], ts: i64, answer: &mut [u64; 1]) -> 
     ensures { λ r. ⌜ ClipContract (clipIn (held (listOf (now (list .entry))) (now (stamps .entry))) ts) r (now (answer .entry)) (now (answer .exit)) ⌝ }
 {
     let x = cut_list::clip(read(list), stamps, Timestamp { micros: ts });
-    let number = x.number;
-    if number == 0 {
+    let clip_number = x.number;
+    if clip_number == 0 {
         let w = [x.clip as u64];
         words::copy(answer, &w);
-        return number;
+        return clip_number;
     }
-    number
+    clip_number
 }
