@@ -34,10 +34,14 @@ pub record ListClaim (minimum : ℕ) (memory : List ℤ) (os : List Operation) :
   pub minimum-stays : listAfter (held (newList minimum) memory) os .list .«min_duration» ≡ minimum
   pub rest-stays : drop places (listAfter (held (newList minimum) memory) os .memory) ≡ drop places memory
 
+-- the numbers of stamps that are added one after the other to an empty list and fit: 0 for the first 512 of them, then 18
+abbrev pub fittingNumbers : List ℤ → List ℕ
+fittingNumbers ts = replicate (min places (length ts)) 0 ++ replicate (length ts - places) 18
+
 -- Stamps that can be added in their order to an empty list: none is refused by 17, and by 18 only from the 513th on (RULES 17.12).
 abbrev pub FitsList : (minimum : ℕ) → (memory : List ℤ) → List ℤ → Type 0
 FitsList d memory ts =
-    map (λ (y : Operated). y .number) (listRun (held (newList d) memory) (map add ts)) ≡ replicate (min places (length ts)) 0 ++ replicate (length ts - places) 18
+    map (λ (y : Operated). y .number) (listRun (held (newList d) memory) (map add ts)) ≡ fittingNumbers ts
 
 -- The places from 512 on are not read and not written: with others in their stead each operation brings the same, and leaves them as they are
 -- (RULES 17.10).
