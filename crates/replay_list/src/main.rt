@@ -5,7 +5,9 @@ use cut_list::CutList;
 use replay::Digest;
 use timestamp::MaybeTimestamp;
 use timestamp::Timestamp;
+ghost use mathlib.Core.Path.{_≡_};
 ghost use Prim.Native.Nat.{_<_, _≤_};
+ghost use lib.ListN.{length};
 
 const MINIMA: [u64; 16] = [
     0,
@@ -54,8 +56,8 @@ fn number(ts: Timestamp) -> u64 {
 }
 
 // The number of the stamp at a place.
-fn number_at(memory: &[i64; 600], i: usize) -> u64
-    requires { ⌜ i < 600 ⌝ }
+fn number_at(memory: &[i64], i: usize) -> u64
+    requires { ⌜ i < length (now memory) ⌝ }
 {
     number(Timestamp { micros: memory[i] })
 }
@@ -72,6 +74,11 @@ fn size_of(b: u8) -> usize
     b as usize
 }
 
+// n without its least byte, and b as the greatest.
+fn pushed(n: u64, b: u8) -> u64 {
+    n / 256 + long_of(b) * 72057594037927936
+}
+
 // The eight bytes of a record from `at` on, least first.
 fn wide(r: &[u8; 32], at: usize) -> u64
     requires { ⌜ at ≤ 24 ⌝ }
@@ -79,7 +86,7 @@ fn wide(r: &[u8; 32], at: usize) -> u64
     let mut n: u64 = 0;
     let mut i: usize = 0;
     while i < 8 {
-        n = n / 256 + long_of(r[at + i]) * 72057594037927936;
+        n = pushed(n, r[at + i]);
         i += 1;
     }
     n
@@ -174,14 +181,21 @@ fn first(r: &[u8; 32], step: u64, count: usize) -> u64 {
     wide(r, 4)
 }
 
+// Puts the stamp of a number at a place.
+fn put(memory: &mut [i64], i: usize, n: u64)
+    requires { ⌜ i < length (now memory) ⌝ }
+{
+    let ts = stamp(n);
+    let micros = ts.micros;
+    memory[i] = micros;
+}
+
 // All places of the memory, from a first one on.
-fn fill(memory: &mut [i64; 600], first: u64, step: u64) {
+fn fill(memory: &mut [i64], first: u64, step: u64) {
     let mut n = first;
     let mut i: usize = 0;
-    while i < 600 {
-        let ts = stamp(n);
-        let micros = ts.micros;
-        memory[i] = micros;
+    while i < memory.len() {
+        put(memory, i, n);
         n = std::num::wrapping_add_u64(n, step);
         i += 1;
     }
@@ -225,7 +239,8 @@ fn moved_by(minimum: u64, how: u8, by: u8) -> u64 {
 }
 
 // The number of the stamp that twelve bytes of a record describe.
-fn aimed(r: &[u8; 32], at: usize, fills: bool, minimum: u64, memory: &[i64; 600]) -> u64
+fn aimed(r: &[u8; 32], at: usize, fills: bool, minimum: u64, memory: &[i64]) -> u64
+    requires { ⌜ length (now memory) ≡ 600 ⌝ }
     requires { ⌜ at ≤ 20 ⌝ }
 {
     if fills & (64 <= r[at]) {
@@ -246,7 +261,9 @@ fn aimed(r: &[u8; 32], at: usize, fills: bool, minimum: u64, memory: &[i64; 600]
 }
 
 // The other end of a span.
-fn other(r: &[u8; 32], ts: u64, fills: bool, minimum: u64, memory: &[i64; 600]) -> u64 {
+fn other(r: &[u8; 32], ts: u64, fills: bool, minimum: u64, memory: &[i64]) -> u64
+    requires { ⌜ length (now memory) ≡ 600 ⌝ }
+{
     if r[31] % 8 == 0 {
         return ts;
     }
@@ -262,7 +279,7 @@ enum Kind {
     Clip,
 }
 
-fn kind(r: &[u8; 32], fills: bool) -> Kind {
+fn kind_of(r: &[u8; 32], fills: bool) -> Kind {
     if fills & (32 <= r[0]) {
         return Kind::Add;
     }
@@ -361,7 +378,9 @@ fn faulty_place(r: &[u8; 32]) -> usize
 }
 
 // The faulty place: as it is, or with a fault.
-fn place_given(r: &[u8; 32], minimum: u64, memory: &[i64; 600]) -> u64 {
+fn place_given(r: &[u8; 32], minimum: u64, memory: &[i64]) -> u64
+    requires { ⌜ length (now memory) ≡ 600 ⌝ }
+{
     let p = faulty_place(r);
     if r[3] % 64 == 6 {
         let before = number_at(memory, p - 1);
@@ -436,11 +455,18 @@ fn operate(k: Kind, list: CutList, memory: &mut [i64], a: u64, b: u64, d: Digest
     }
 }
 
+// The same with the first n places of the memory.
+fn lend(k: Kind, list: CutList, memory: &mut [i64], n: usize, a: u64, b: u64, d: Digest) -> Done
+    requires { ⌜ n ≤ length (now memory) ⌝ }
+{
+    operate(k, list, &mut memory[..n], a, b, d)
+}
+
 // All places of the memory.
-fn feed_places(d: Digest, memory: &[i64; 600]) -> Digest {
+fn feed_places(d: Digest, memory: &[i64]) -> Digest {
     let mut sums = d;
     let mut i: usize = 0;
-    while i < 600 {
+    while i < memory.len() {
         sums = replay::long(sums, number_at(memory, i));
         i += 1;
     }
@@ -448,19 +474,10 @@ fn feed_places(d: Digest, memory: &[i64; 600]) -> Digest {
 }
 
 // The record that an operation leaves, and the places.
-fn feed(d: Digest, list: CutList, memory: &[i64; 600]) -> Digest {
+fn feed(d: Digest, list: CutList, memory: &[i64]) -> Digest {
     let d1 = replay::long(d, list.min_duration);
     let d2 = replay::long(d1, list.count as u64);
     feed_places(d2, memory)
-}
-
-// Puts the stamp of a number at a place.
-fn put(memory: &mut [i64; 600], i: usize, n: u64)
-    requires { ⌜ i < 600 ⌝ }
-{
-    let ts = stamp(n);
-    let micros = ts.micros;
-    memory[i] = micros;
 }
 
 // A list of operations on its way: the generator's number, whether stamps are mostly added, the record and the digest.
@@ -471,28 +488,53 @@ struct Run {
     digest: Digest,
 }
 
-// One operation. After a 15 the list goes on from what was there before the fault.
-fn operation(run: Run, r: &[u8; 32], memory: &mut [i64; 600]) -> Run {
+// One operation, at times with a fault: what it leaves, with record and places in the digest.
+fn attempt(run: Run, r: &[u8; 32], memory: &mut [i64]) -> Done
+    requires { ⌜ length (now memory) ≡ 600 ⌝ }
+{
     let list = run.list;
+    let digest = run.digest;
     let minimum = list.min_duration;
     let a = aimed(r, 8, run.fills, minimum, memory);
     let b = other(r, a, run.fills, minimum, memory);
+    put(memory, faulty_place(r), place_given(r, minimum, memory));
+    let done = lend(
+        kind_of(r, run.fills),
+        given(r, list),
+        memory,
+        lent(r),
+        a,
+        b,
+        digest,
+    );
+    let left = done.list;
+    let answered = done.digest;
+    Done {
+        number: done.number,
+        list: left,
+        digest: feed(answered, left, memory),
+    }
+}
+
+// One operation. After a 15 the list goes on from what was there before the fault.
+fn operation(run: Run, r: &[u8; 32], memory: &mut [i64]) -> Run
+    requires { ⌜ length (now memory) ≡ 600 ⌝ }
+{
+    let before = run.list;
     let p = faulty_place(r);
     let kept = number_at(memory, p);
-    put(memory, p, place_given(r, minimum, memory));
-    let n = lent(r);
-    let done = operate(kind(r, run.fills), given(r, list), &mut memory[..n], a, b, run.digest);
-    let left = done.list;
-    let digest = feed(done.digest, left, memory);
+    let done = attempt(run, r, memory);
+    let digest = done.digest;
     if done.number == 15 {
         put(memory, p, kept);
         return Run {
             x: run.x,
             fills: run.fills,
-            list: list,
+            list: before,
             digest: digest,
         };
     }
+    let left = done.list;
     Run {
         x: run.x,
         fills: run.fills,
@@ -502,7 +544,9 @@ fn operation(run: Run, r: &[u8; 32], memory: &mut [i64; 600]) -> Run {
 }
 
 // The next record of the generator, and the operation that it describes.
-fn next(run: Run, memory: &mut [i64; 600]) -> Run {
+fn next(run: Run, memory: &mut [i64]) -> Run
+    requires { ⌜ length (now memory) ≡ 600 ⌝ }
+{
     let mut r = [0u8; 32];
     let list = run.list;
     let digest = run.digest;
@@ -528,7 +572,9 @@ fn opened(minimum: u64, count: usize) -> CutList {
 }
 
 // The start of a list of operations, by the next record of the generator.
-fn start(x: u32, digest: Digest, memory: &mut [i64; 600]) -> Run {
+fn start(x: u32, digest: Digest, memory: &mut [i64]) -> Run
+    requires { ⌜ length (now memory) ≡ 600 ⌝ }
+{
     let mut r = [0u8; 32];
     let next = replay::fill(&mut r, x, 0);
     let minimum = minimum(&r);
@@ -544,7 +590,9 @@ fn start(x: u32, digest: Digest, memory: &mut [i64; 600]) -> Run {
 }
 
 // A list of n operations.
-fn list(x: u32, digest: Digest, n: u32, memory: &mut [i64; 600]) -> Run {
+fn list(x: u32, digest: Digest, n: u32, memory: &mut [i64]) -> Run
+    requires { ⌜ length (now memory) ≡ 600 ⌝ }
+{
     let mut run = start(x, digest, memory);
     let mut c: u32 = 0;
     while c < n {
@@ -555,7 +603,7 @@ fn list(x: u32, digest: Digest, n: u32, memory: &mut [i64; 600]) -> Run {
 }
 
 // How many operations list c of a batch has.
-fn length(c: u32) -> u32 {
+fn operations(c: u32) -> u32 {
     if c == 63 {
         return 1000;
     }
@@ -563,7 +611,9 @@ fn length(c: u32) -> u32 {
 }
 
 // 64 lists, from x.
-fn batch(x: u32, memory: &mut [i64; 600]) -> Run {
+fn batch(x: u32, memory: &mut [i64]) -> Run
+    requires { ⌜ length (now memory) ≡ 600 ⌝ }
+{
     let mut run = Run {
         x: x,
         fills: false,
@@ -573,14 +623,16 @@ fn batch(x: u32, memory: &mut [i64; 600]) -> Run {
     let mut c: u32 = 0;
     while c < 64 {
         let digest = run.digest;
-        run = list(run.x, digest, length(c), memory);
+        run = list(run.x, digest, operations(c), memory);
         c += 1;
     }
     run
 }
 
 // 16 batches, one after the other.
-fn batches(memory: &mut [i64; 600]) {
+fn batches(memory: &mut [i64])
+    requires { ⌜ length (now memory) ≡ 600 ⌝ }
+{
     let mut x = 0;
     let mut b: u64 = 0;
     while b < 16 {
