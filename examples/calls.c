@@ -1,8 +1,8 @@
-/* Calls every function of mawerodu.h, the plain frame calls and the feed calls of both detectors, and prints the name of
- * each function that it calls and what came of it. Each argument differs from its neighbours, so that two of them in the
- * other order would show. calls_c.stdout is what it must print; it is the output of calls.py, a model of docs/RULES.md that
- * knows nothing of the library. examples/run compares the two, and that no function of the header is left out. It
- * compiles as C99 and as C++17. */
+/* Calls every function of mawerodu.h, the plain frame calls and the feed calls of both detectors and the list calls, and
+ * prints the name of each function that it calls and what came of it. Each argument differs from its neighbours, so that
+ * two of them in the other order would show. calls_c.stdout is what it must print; it is the output of calls.py, a model
+ * of docs/RULES.md that knows nothing of the library. examples/run compares the two, and that no function of the header
+ * is left out. It compiles as C99 and as C++17. */
 #include "mawerodu.h"
 
 #include <stdio.h>
@@ -473,6 +473,247 @@ static void show_refusals(struct detector *d)
     printf("%d\n", CALL(mw_memory_init, (&memory, 1, MW_MAX_SIDE + 1)));
 }
 
+/* ---- The list of a sitting ---- */
+
+enum { LENT = MW_LIST_PLACES + 3, HELD = LENT + BEHIND, FEW = 16 };
+
+/* A list, its stamps with a few places behind what a call is lent, and the memory for results. */
+struct sitting {
+    struct mw_list list;
+    int64_t stamps[HELD];
+    struct mw_nearest nearest;
+    struct mw_span span;
+    uint64_t clip;
+};
+static struct sitting sitting;
+
+enum list_call { ADD, REMOVE, EMPTY, NEAREST, SPAN, CLIP };
+
+struct operation {
+    enum list_call call;
+    int64_t a, b; /* the stamp; of a span, its ends */
+};
+
+/* A minimum of 100. */
+static const struct operation by_hundred[] = {
+    /* without stamps */
+    {NEAREST, 5, 0}, {SPAN, INT64_MIN, INT64_MAX}, {CLIP, 5, 0}, {EMPTY, 0, 0}, {REMOVE, 5, 0},
+    /* at the minimum: the first, after it, before it */
+    {ADD, 1000, 0}, {ADD, 1100, 0}, {ADD, 900, 0},
+    /* nearer by one: after the last, before the first; between two; equal */
+    {ADD, 1199, 0}, {ADD, 801, 0}, {ADD, 1050, 0}, {ADD, 1000, 0},
+    /* at the minimum from both; nearer to the one after, nearer to the one before */
+    {ADD, 1300, 0}, {ADD, 1500, 0}, {ADD, 1200, 0}, {ADD, 1401, 0}, {ADD, 1399, 0}, {ADD, 1400, 0}, {ADD, -500, 0},
+    /* a tie, and beside it; before all, after all, a stamp itself */
+    {NEAREST, 1250, 0}, {NEAREST, 1251, 0}, {NEAREST, 1249, 0}, {NEAREST, -9000, 0}, {NEAREST, 9000, 0},
+    {NEAREST, 1100, 0},
+    /* ends at stamps and beside them; none, and the wrong way round */
+    {SPAN, 1100, 1300}, {SPAN, 1101, 1299}, {SPAN, 1101, 1199}, {SPAN, 1300, 1100}, {SPAN, INT64_MIN, INT64_MAX},
+    {SPAN, 1500, 1500}, {SPAN, 1501, 9000}, {SPAN, -9000, -500},
+    /* at a stamp and before it */
+    {CLIP, -501, 0}, {CLIP, -500, 0}, {CLIP, 1099, 0}, {CLIP, 1100, 0}, {CLIP, 1500, 0}, {CLIP, INT64_MAX, 0},
+    /* absent; the first, the last, one between, the same again */
+    {REMOVE, 1101, 0}, {REMOVE, -500, 0}, {REMOVE, 1500, 0}, {REMOVE, 1200, 0}, {REMOVE, 1200, 0},
+    /* into the gap */
+    {ADD, 1250, 0}, {ADD, 1200, 0}, {EMPTY, 0, 0}, {NEAREST, 1200, 0}, {ADD, 50, 0},
+};
+
+/* A minimum of 0: only equal stamps are refused. */
+static const struct operation by_nothing[] = {
+    {ADD, 5, 0}, {ADD, 5, 0}, {ADD, 6, 0}, {ADD, 4, 0}, {ADD, 4, 0}, {NEAREST, 5, 0}, {SPAN, 5, 5}, {REMOVE, 5, 0},
+    {NEAREST, 5, 0},
+};
+
+/* The largest minimum, which is the largest difference. */
+static const struct operation by_all[] = {
+    {ADD, INT64_MIN, 0}, {ADD, INT64_MAX - 1, 0}, {ADD, INT64_MAX, 0}, {ADD, 0, 0}, {NEAREST, 0, 0}, {NEAREST, -1, 0},
+    {NEAREST, INT64_MIN, 0}, {SPAN, INT64_MIN, -1}, {SPAN, INT64_MAX, INT64_MAX}, {CLIP, INT64_MIN, 0},
+    {CLIP, INT64_MAX - 1, 0}, {REMOVE, INT64_MIN, 0}, {ADD, INT64_MIN + 1, 0}, {ADD, INT64_MIN, 0}, {EMPTY, 0, 0},
+};
+
+/* A minimum of 2^63. */
+static const struct operation by_half[] = {
+    {ADD, 0, 0}, {ADD, INT64_MAX, 0}, {ADD, INT64_MIN + 1, 0}, {ADD, INT64_MIN, 0}, {CLIP, -1, 0},
+};
+
+/* On a list of 10, 20 and so on up to 5120, with a minimum of 10. */
+static const struct operation on_full[] = {
+    /* too close or equal before full */
+    {ADD, 5125, 0}, {ADD, 5120, 0}, {ADD, 5130, 0}, {ADD, 0, 0},
+    {CLIP, INT64_MAX, 0}, {SPAN, 15, 5111}, {NEAREST, 2555, 0},
+    /* one out and in again, the last replaced, the first replaced */
+    {REMOVE, 5, 0}, {REMOVE, 2560, 0}, {ADD, 2561, 0}, {ADD, 2560, 0}, {REMOVE, 5120, 0}, {ADD, 5130, 0},
+    {REMOVE, 10, 0}, {ADD, INT64_MIN, 0}, {ADD, INT64_MAX, 0}, {EMPTY, 0, 0},
+};
+
+/* A list without stamps, of words and memory that were filled with something. */
+static void new_list(uint64_t min_duration)
+{
+    memset(&sitting, FILL, sizeof sitting);
+    for (int i = 0; i < HELD; i++)
+        sitting.stamps[i] = FILL;
+    CALL(mw_list_new, (&sitting.list, min_duration));
+    printf("done\n");
+}
+
+/* The words, and the places that are not as they were filled. If these are more than a few, a number that is made of
+ * all places. */
+static void show_list(void)
+{
+    uint64_t all = 0;
+    int changed = 0;
+
+    printf("list");
+    for (int i = 0; i < MW_LIST_WORDS; i++)
+        printf(" %llx", (unsigned long long)sitting.list.words[i]);
+    for (int i = 0; i < HELD; i++) {
+        all = 31 * all + (uint64_t)sitting.stamps[i];
+        changed += sitting.stamps[i] != FILL;
+    }
+    printf(", %d places", changed);
+    if (changed > FEW)
+        printf(" %llx", (unsigned long long)all);
+    else
+        for (int i = 0; i < HELD; i++)
+            if (sitting.stamps[i] != FILL)
+                printf(" %d:%lld", i, (long long)sitting.stamps[i]);
+    printf("\n");
+}
+
+static uint32_t list_call(const struct operation *o, size_t length)
+{
+    struct sitting *s = &sitting;
+
+    switch (o->call) {
+    case ADD:
+        return CALL(mw_list_add, (&s->list, s->stamps, length, o->a));
+    case REMOVE:
+        return CALL(mw_list_remove, (&s->list, s->stamps, length, o->a));
+    case EMPTY:
+        return CALL(mw_list_empty, (&s->list, s->stamps, length));
+    case NEAREST:
+        return CALL(mw_list_nearest, (&s->list, s->stamps, length, o->a, &s->nearest));
+    case SPAN:
+        return CALL(mw_list_span, (&s->list, s->stamps, length, o->a, o->b, &s->span));
+    default:
+        return CALL(mw_list_clip, (&s->list, s->stamps, length, o->a, &s->clip));
+    }
+}
+
+/* An operation, its number, and the list after it; of a look-up that is accepted, the result, and whether the list is
+ * as before. */
+static void operate(const struct operation *o, size_t length)
+{
+    static struct sitting before;
+    uint32_t number;
+
+    memcpy(&before, &sitting, sizeof sitting);
+    number = list_call(o, length);
+    printf("%lld %lld: %u ", (long long)o->a, (long long)o->b, (unsigned)number);
+    if (o->call < NEAREST) {
+        show_list();
+        return;
+    }
+    if (o->call == NEAREST)
+        printf("%llu %lld ", (unsigned long long)sitting.nearest.has, (long long)sitting.nearest.ts);
+    else if (o->call == SPAN)
+        printf("%llu %llu ", (unsigned long long)sitting.span.first, (unsigned long long)sitting.span.count);
+    else
+        printf("%llu ", (unsigned long long)sitting.clip);
+    printf("%s\n", memcmp(&sitting.list, &before.list, sizeof before.list) == 0 &&
+                           memcmp(sitting.stamps, before.stamps, sizeof before.stamps) == 0
+                       ? "as before"
+                       : "changed");
+}
+
+static void operate_all(const struct operation *operations, size_t count, size_t length)
+{
+    for (size_t i = 0; i < count; i++)
+        operate(&operations[i], length);
+}
+#define OPERATE(operations, length) operate_all(operations, sizeof operations / sizeof *operations, length)
+
+/* A list of three stamps and how many places are lent; the places behind them go on to rise by 100. */
+struct made {
+    uint64_t words[MW_LIST_WORDS];
+    int64_t first[3];
+    size_t length;
+};
+
+/* The first has no fault, each other one has one. */
+#define LIST_VERSION 0x4d574c4953543031u /* MWLIST01 */
+static const struct made lists[] = {
+    {{LIST_VERSION, 100, 3}, {100, 200, 300}, LENT},
+    {{LIST_VERSION + 1, 100, 3}, {100, 200, 300}, LENT},
+    {{0, 100, 3}, {100, 200, 300}, LENT},
+    {{LIST_VERSION, 100, MW_LIST_PLACES + 1}, {100, 200, 300}, LENT},
+    {{LIST_VERSION, 100, (uint64_t)1 << 32}, {100, 200, 300}, LENT},
+    {{LIST_VERSION, 100, UINT64_MAX}, {100, 200, 300}, LENT},
+    {{LIST_VERSION, 100, 3}, {100, 200, 300}, MW_LIST_PLACES - 1},
+    {{LIST_VERSION, 100, 3}, {100, 200, 300}, 0},
+    {{LIST_VERSION, 0, 3}, {100, 100, 300}, LENT},
+    {{LIST_VERSION, 0, 3}, {100, 99, 300}, LENT},
+    {{LIST_VERSION, 0, 3}, {INT64_MAX, INT64_MIN, 300}, LENT},
+    {{LIST_VERSION, 100, 3}, {100, 199, 300}, LENT},
+    {{LIST_VERSION, 100, 3}, {100, 200, 299}, LENT},
+};
+
+static void make(const struct made *made)
+{
+    memset(&sitting, FILL, sizeof sitting);
+    memcpy(sitting.list.words, made->words, sizeof made->words);
+    for (int i = 0; i < HELD; i++)
+        sitting.stamps[i] = i < 3 ? made->first[i] : 100 * (i + 1);
+}
+
+/* Every call on each of these lists. Without a fault the stamp to add is there already, and that to remove is not. */
+static void show_made(void)
+{
+    static const struct operation operations[] = {
+        {ADD, 200, 0}, {REMOVE, 250, 0}, {EMPTY, 0, 0}, {NEAREST, 250, 0}, {SPAN, 100, 300}, {CLIP, 200, 0},
+    };
+    static struct sitting before;
+
+    for (unsigned i = 0; i < sizeof lists / sizeof *lists; i++)
+        for (unsigned call = 0; call < sizeof operations / sizeof *operations; call++) {
+            uint32_t number;
+
+            make(&lists[i]);
+            memcpy(&before, &sitting, sizeof sitting);
+            number = list_call(&operations[call], lists[i].length);
+            printf("%u %s\n", (unsigned)number,
+                   memcmp(&sitting, &before, sizeof sitting) == 0 ? "as before" : "changed");
+        }
+}
+
+/* A list of as many stamps as it holds, which come in another order. */
+static void show_full(size_t length)
+{
+    unsigned accepted = 0;
+
+    new_list(10);
+    for (int i = 0; i < MW_LIST_PLACES; i++)
+        accepted += mw_list_add(&sitting.list, sitting.stamps, length, 10 * (i * 77 % MW_LIST_PLACES + 1)) == 0;
+    printf("full %u ", accepted);
+    show_list();
+    OPERATE(on_full, length);
+}
+
+static void show_lists(void)
+{
+    new_list(100);
+    OPERATE(by_hundred, LENT);
+    new_list(0);
+    OPERATE(by_nothing, LENT);
+    new_list(UINT64_MAX);
+    OPERATE(by_all, LENT);
+    new_list((uint64_t)1 << 63);
+    OPERATE(by_half, LENT);
+    show_full(MW_LIST_PLACES);
+    show_full(LENT);
+    show_made();
+}
+
 /* ---- Numbers ---- */
 
 static void numbers(void)
@@ -483,13 +724,15 @@ static void numbers(void)
     printf("%llu\n", (unsigned long long)CALL(mw_content_words, ()));
     printf("%llu\n", (unsigned long long)CALL(mw_adaptive_words, ()));
     printf("%llu\n", (unsigned long long)CALL(mw_answer_words, ()));
+    printf("%llu\n", (unsigned long long)CALL(mw_list_words, ()));
+    printf("%llu\n", (unsigned long long)CALL(mw_list_places, ()));
     for (unsigned i = 0; i < sizeof sizes / sizeof *sizes; i++) {
         uint32_t width = sizes[i][0], height = sizes[i][1];
         printf("%llu ", (unsigned long long)CALL(mw_store_bytes, (width, height)));
         printf("%llu ", (unsigned long long)CALL(mw_scratch_bytes, (width, height)));
         printf("%llu\n", (unsigned long long)CALL(mw_magnitudes, (width, height)));
     }
-    for (uint32_t number = 0; number <= 16; number++)
+    for (uint32_t number = 0; number <= 20; number++)
         printf("%u %s\n", (unsigned)number, CALL(mw_text, (number)));
 }
 
@@ -507,5 +750,6 @@ int main(void)
             }
         show_refusals(&d);
     }
+    show_lists();
     return 0;
 }

@@ -275,6 +275,172 @@ class Adaptive(Detector):
         return words + [bits(x) for x in self.scores] + [0] * (129 - len(self.scores))
 
 
+# ---- the list of a sitting (RULES 17) ----
+
+LEAST, MOST = -2 ** 63, 2 ** 63 - 1
+LENT, HELD = 515, 523
+
+
+class CutList:
+    """Words, memory of HELD places that is 77 at first, and how many of these are lent. Whole numbers that differ do so by
+    at least 1, so that stamps differ and keep the minimum exactly if they keep the larger of it and 1."""
+    VERSION = 0x4D574C4953543031
+
+    def __init__(self, minimum):
+        self.words = [self.VERSION, minimum, 0]
+        self.memory = [77] * HELD
+        self.length = LENT
+
+    def stamps(self):
+        return self.memory[:self.words[2]]
+
+    def bad(self):
+        version, minimum, count = self.words
+        return (version != self.VERSION or count > 512 or self.length < 512
+                or any(y - x < max(minimum, 1) for x, y in zip(self.stamps(), self.stamps()[1:])))
+
+    def add(self, ts, _):
+        stamps = self.stamps()
+        if any(abs(x - ts) < max(self.words[1], 1) for x in stamps):
+            return 17
+        if len(stamps) == 512:
+            return 18
+        self.memory[:len(stamps) + 1] = sorted(stamps + [ts])
+        self.words[2] += 1
+        return 0
+
+    def remove(self, ts, _):
+        stamps = self.stamps()
+        if ts not in stamps:
+            return 19
+        self.memory[:len(stamps)] = [x for x in stamps if x != ts] + [0]
+        self.words[2] -= 1
+        return 0
+
+    def empty(self, _, __):
+        self.memory[:self.words[2]] = [0] * self.words[2]
+        self.words[2] = 0
+        return 0
+
+    def nearest(self, ts, _):
+        found = sorted(self.stamps(), key=lambda x: (abs(x - ts), x))
+        return (1, found[0]) if found else (0, 0)
+
+    def span(self, a, b):
+        places = [place for place, x in enumerate(self.stamps()) if a <= x <= b]
+        return (places[0], len(places)) if places else (0, 0)
+
+    def clip(self, ts, _):
+        return (len([x for x in self.stamps() if x <= ts]),)
+
+    def shown(self):
+        changed = [(place, x) for place, x in enumerate(self.memory) if x != 77]
+        text = "list %x %x %x, " % tuple(self.words) + f"{len(changed)} places"
+        if len(changed) > 16:
+            total = 0
+            for x in self.memory:
+                total = (31 * total + x) % 2 ** 64
+            return f"{text} {total:x}"
+        return " ".join([text] + [f"{place}:{x}" for place, x in changed])
+
+
+# a name, the stamp and 0; of a span, its two ends; of empty, 0 and 0
+BY_HUNDRED = [
+    # without stamps
+    ("nearest", 5, 0), ("span", LEAST, MOST), ("clip", 5, 0), ("empty", 0, 0), ("remove", 5, 0),
+    # at the minimum: the first, after it, before it
+    ("add", 1000, 0), ("add", 1100, 0), ("add", 900, 0),
+    # nearer by one: after the last, before the first; between two; equal
+    ("add", 1199, 0), ("add", 801, 0), ("add", 1050, 0), ("add", 1000, 0),
+    # at the minimum from both; nearer to the one after, nearer to the one before
+    ("add", 1300, 0), ("add", 1500, 0), ("add", 1200, 0), ("add", 1401, 0), ("add", 1399, 0), ("add", 1400, 0),
+    ("add", -500, 0),
+    # a tie, and beside it; before all, after all, a stamp itself
+    ("nearest", 1250, 0), ("nearest", 1251, 0), ("nearest", 1249, 0), ("nearest", -9000, 0), ("nearest", 9000, 0),
+    ("nearest", 1100, 0),
+    # ends at stamps and beside them; none, and the wrong way round
+    ("span", 1100, 1300), ("span", 1101, 1299), ("span", 1101, 1199), ("span", 1300, 1100), ("span", LEAST, MOST),
+    ("span", 1500, 1500), ("span", 1501, 9000), ("span", -9000, -500),
+    # at a stamp and before it
+    ("clip", -501, 0), ("clip", -500, 0), ("clip", 1099, 0), ("clip", 1100, 0), ("clip", 1500, 0), ("clip", MOST, 0),
+    # absent; the first, the last, one between, the same again
+    ("remove", 1101, 0), ("remove", -500, 0), ("remove", 1500, 0), ("remove", 1200, 0), ("remove", 1200, 0),
+    # into the gap
+    ("add", 1250, 0), ("add", 1200, 0), ("empty", 0, 0), ("nearest", 1200, 0), ("add", 50, 0),
+]
+BY_NOTHING = [
+    ("add", 5, 0), ("add", 5, 0), ("add", 6, 0), ("add", 4, 0), ("add", 4, 0), ("nearest", 5, 0), ("span", 5, 5),
+    ("remove", 5, 0), ("nearest", 5, 0),
+]
+BY_ALL = [
+    ("add", LEAST, 0), ("add", MOST - 1, 0), ("add", MOST, 0), ("add", 0, 0), ("nearest", 0, 0), ("nearest", -1, 0),
+    ("nearest", LEAST, 0), ("span", LEAST, -1), ("span", MOST, MOST), ("clip", LEAST, 0), ("clip", MOST - 1, 0),
+    ("remove", LEAST, 0), ("add", LEAST + 1, 0), ("add", LEAST, 0), ("empty", 0, 0),
+]
+BY_HALF = [
+    ("add", 0, 0), ("add", MOST, 0), ("add", LEAST + 1, 0), ("add", LEAST, 0), ("clip", -1, 0),
+]
+ON_FULL = [
+    # too close or equal before full
+    ("add", 5125, 0), ("add", 5120, 0), ("add", 5130, 0), ("add", 0, 0),
+    ("clip", MOST, 0), ("span", 15, 5111), ("nearest", 2555, 0),
+    # one out and in again, the last replaced, the first replaced
+    ("remove", 5, 0), ("remove", 2560, 0), ("add", 2561, 0), ("add", 2560, 0), ("remove", 5120, 0), ("add", 5130, 0),
+    ("remove", 10, 0), ("add", LEAST, 0), ("add", MOST, 0), ("empty", 0, 0),
+]
+# words, the first three stamps, the number of places: a list without a fault, then lists with one each
+VERSION = CutList.VERSION
+MADE = [
+    ((VERSION, 100, 3), (100, 200, 300), LENT),
+    ((VERSION + 1, 100, 3), (100, 200, 300), LENT),
+    ((0, 100, 3), (100, 200, 300), LENT),
+    ((VERSION, 100, 513), (100, 200, 300), LENT),
+    ((VERSION, 100, 2 ** 32), (100, 200, 300), LENT),
+    ((VERSION, 100, 2 ** 64 - 1), (100, 200, 300), LENT),
+    ((VERSION, 100, 3), (100, 200, 300), 511),
+    ((VERSION, 100, 3), (100, 200, 300), 0),
+    ((VERSION, 0, 3), (100, 100, 300), LENT),
+    ((VERSION, 0, 3), (100, 99, 300), LENT),
+    ((VERSION, 0, 3), (MOST, LEAST, 300), LENT),
+    ((VERSION, 100, 3), (100, 199, 300), LENT),
+    ((VERSION, 100, 3), (100, 200, 299), LENT),
+]
+ON_MADE = [("add", 200, 0), ("remove", 250, 0), ("empty", 0, 0), ("nearest", 250, 0), ("span", 100, 300), ("clip", 200, 0)]
+
+
+def called(cuts, name, a, b):
+    """The number of an operation, and of a look-up its result."""
+    if cuts.bad():
+        return 15, ()
+    result = getattr(cuts, name)(a, b)
+    return (0, result) if name in ("nearest", "span", "clip") else (result, None)
+
+
+def operate(cuts, operations):
+    for name, a, b in operations:
+        answered, result = called(cuts, name, a, b)
+        print(f"mw_list_{name} {a} {b}: {answered}", *((cuts.shown(),) if result is None else (*result, "as before")))
+
+
+def lists():
+    for minimum, operations in ((100, BY_HUNDRED), (0, BY_NOTHING), (2 ** 64 - 1, BY_ALL), (2 ** 63, BY_HALF)):
+        print("mw_list_new done")
+        operate(CutList(minimum), operations)
+    for length in (512, LENT):
+        print("mw_list_new done")
+        full = CutList(10)
+        full.length = length
+        print("full", [full.add(10 * (i * 77 % 512 + 1), 0) for i in range(512)].count(0), full.shown())
+        operate(full, ON_FULL)
+    for words, first, length in MADE:
+        for name, a, b in ON_MADE:
+            cuts = CutList(0)
+            cuts.words, cuts.length = list(words), length
+            cuts.memory = list(first) + [100 * (i + 1) for i in range(3, HELD)]
+            answered = called(cuts, name, a, b)[0]
+            print(f"mw_list_{name}", answered, "as before" if answered else "changed")
+
+
 # ---- the calls of calls.c ----
 
 def memory(width, height):
@@ -301,7 +467,11 @@ TEXTS = (
     "store is too short",
     "scratch is too short",
     "magnitudes are too short",
-    "not a valid state, or not a filter mode",
+    "not a valid state or list, or not a filter mode",
+    "unknown number",
+    "the stamp equals one of the list, or is closer to one than min_duration",
+    "the list holds 512 stamps",
+    "the stamp is not in the list",
     "unknown number",
 )
 
@@ -311,6 +481,8 @@ def numbers():
     print("mw_content_words", 27)
     print("mw_adaptive_words", 288)
     print("mw_answer_words", 13)
+    print("mw_list_words", 3)
+    print("mw_list_places", 512)
     for width, height in ((12, 9), (9, 12), (4096, 3), (3, 4096), (4097, 3), (3, 4097)):
         print("mw_store_bytes %d mw_scratch_bytes %d mw_magnitudes %d" % memory(width, height))
     for i, text in enumerate(TEXTS):
@@ -403,6 +575,7 @@ def main():
         lambda: Adaptive(1.5, 200000, 1, 2.5, (4.0, 3.0, 1.0, 2.0), 3, False),
         lambda: Adaptive(1.25, 350000, 2, 5.5, (2.0, 1.0, 3.0, 0.0), None, True),
     ))
+    lists()
 
 
 if __name__ == "__main__":

@@ -1,6 +1,7 @@
 /* Uses the station library from C, with frames of one or two pixels: a film with the default settings, a BGR frame by a
- * call without struct mw_memory, an HSV frame, the readers, the two filter modes, the adaptive detector, and calls that
- * are refused. cut_c.stdout is what it must print, worked out by hand. It compiles as C99 and as C++17. */
+ * call without struct mw_memory, an HSV frame, the readers, the two filter modes, the adaptive detector, calls that are
+ * refused, and the list of a film's cuts. cut_c.stdout is what it must print, worked out by hand. It compiles as C99
+ * and as C++17. */
 #include "mawerodu.h"
 
 #include <stdio.h>
@@ -84,8 +85,9 @@ static int hsv(struct mw_content *state, struct mw_memory *memory)
     return 1;
 }
 
-/* Scores of 30, 30, 30, 30 and 5. Suppress drops the second; Merge reports the fourth at the fifth frame. */
-static int modes(struct mw_content *state, struct mw_memory *memory)
+/* Scores of 30, 30, 30, 30 and 5. Suppress drops the second; Merge reports the fourth at the fifth frame. The list has
+ * the cuts of the mode that comes last. */
+static int modes(struct mw_content *state, struct mw_memory *memory, struct mw_list *list, int64_t *stamps)
 {
     static const struct frame frames[] = {{0, 100},       {400000, 130},  {900000, 100},
                                           {1400000, 130}, {2400000, 100}, {3400000, 105}};
@@ -95,13 +97,17 @@ static int modes(struct mw_content *state, struct mw_memory *memory)
         if (mw_content_new(state, MW_DEFAULT_CONTENT_THRESHOLD, MW_DEFAULT_MIN_DURATION, MW_LUMA_WEIGHTS, mode,
                            MW_DEFAULT_KERNEL, 1) != MW_OK)
             return 0;
+        mw_list_new(list, MW_DEFAULT_MIN_DURATION);
         printf("%s", names[mode]);
         for (unsigned i = 0; i < sizeof frames / sizeof *frames; i++) {
             int64_t cut;
             if (mw_content_feed_luma(state, memory, &frames[i].luma, 1, 1, 1, 1, frames[i].ts) != MW_OK)
                 return 0;
-            if (mw_cut(&memory->answer, &cut))
-                printf(" %lld (at %lld)", (long long)cut, (long long)frames[i].ts);
+            if (!mw_cut(&memory->answer, &cut))
+                continue;
+            printf(" %lld (at %lld)", (long long)cut, (long long)frames[i].ts);
+            if (mw_list_add(list, stamps, MW_LIST_PLACES, cut) != MW_OK)
+                return 0;
         }
         printf("\n");
     }
@@ -203,8 +209,49 @@ static int refused_frames(struct mw_content *state, struct mw_memory *memory)
     return 1;
 }
 
+/* What the list says of a stamp: the cut nearest to it, the earlier one on a tie, and its clip; and which cuts are not
+ * before it. */
+static int look_up(const struct mw_list *list, const int64_t *stamps, int64_t ts)
+{
+    struct mw_nearest nearest;
+    struct mw_span span;
+    uint64_t clip;
+
+    if (mw_list_nearest(list, stamps, MW_LIST_PLACES, ts, &nearest) != MW_OK ||
+        mw_list_span(list, stamps, MW_LIST_PLACES, ts, INT64_MAX, &span) != MW_OK ||
+        mw_list_clip(list, stamps, MW_LIST_PLACES, ts, &clip) != MW_OK)
+        return 0;
+    if (nearest.has)
+        printf("%lld: nearest %lld,", (long long)ts, (long long)nearest.ts);
+    else
+        printf("%lld: no nearest,", (long long)ts);
+    printf(" clip %llu, from it on %llu:", (unsigned long long)clip, (unsigned long long)span.count);
+    for (uint64_t place = span.first; place < span.first + span.count; place++)
+        printf(" %lld", (long long)stamps[place]);
+    printf("\n");
+    return 1;
+}
+
+/* The list of the cuts 400000, 1400000 and 2400000, a second apart. */
+static int listed(struct mw_list *list, int64_t *stamps)
+{
+    /* a tie; a cut itself */
+    if (!look_up(list, stamps, 900000) || !look_up(list, stamps, 1400000))
+        return 0;
+    /* too close to a cut after it, and not in the list; then a cut removed, and one put in its stead */
+    printf("list %u", (unsigned)mw_list_add(list, stamps, MW_LIST_PLACES, 1399999));
+    printf(" %u,", (unsigned)mw_list_remove(list, stamps, MW_LIST_PLACES, 1399999));
+    printf(" %u", (unsigned)mw_list_remove(list, stamps, MW_LIST_PLACES, 1400000));
+    printf(" %u\n", (unsigned)mw_list_add(list, stamps, MW_LIST_PLACES, 3400000));
+    if (!look_up(list, stamps, 1400001) || mw_list_empty(list, stamps, MW_LIST_PLACES) != MW_OK)
+        return 0;
+    return look_up(list, stamps, 0);
+}
+
 int main(void)
 {
+    static int64_t stamps[MW_LIST_PLACES];
+    struct mw_list list;
     struct mw_content state;
     struct mw_memory memory;
     int done;
@@ -212,6 +259,7 @@ int main(void)
     /* header and library */
     if (mw_version() != MW_VERSION || mw_content_words() != MW_CONTENT_WORDS ||
         mw_adaptive_words() != MW_ADAPTIVE_WORDS || mw_answer_words() != MW_ANSWER_WORDS ||
+        mw_list_words() != MW_LIST_WORDS || mw_list_places() != MW_LIST_PLACES ||
         mw_store_bytes(5, 9) != MW_STORE_BYTES(5, 9) || mw_scratch_bytes(5, 9) != MW_SCRATCH_BYTES(5, 9) ||
         mw_scratch_bytes(9, 5) != MW_SCRATCH_BYTES(9, 5) || mw_magnitudes(5, 9) != MW_MAGNITUDES(5, 9)) {
         fprintf(stderr, "the header is not that of the library\n");
@@ -222,7 +270,8 @@ int main(void)
         return 1;
     }
     done = mw_content_default(&state) == MW_OK && film(&state, &memory) && bgr(&state) && hsv(&state, &memory) &&
-           modes(&state, &memory) && adaptive() && refused_settings() && refused_frames(&state, &memory);
+           modes(&state, &memory, &list, stamps) && adaptive() && refused_settings() &&
+           refused_frames(&state, &memory) && listed(&list, stamps);
     mw_memory_free(&memory);
     return done ? 0 : 1;
 }

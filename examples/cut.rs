@@ -1,6 +1,8 @@
 // Cuts a film of four frames of one pixel, with the content detector's default settings: a cut at 400000. Then the state, the
-// settings and the refusals, the sums that a score comes from, and the adaptive detector on a longer film.
-use mawerodu::{AdaptiveDetector, AdaptiveOptions, Components, ContentDetector, ContentOptions, Refusal, Sums};
+// settings and the refusals, the sums that a score comes from, the adaptive detector on a longer film, and a list of cuts.
+use mawerodu::{
+    AdaptiveDetector, AdaptiveOptions, Components, ContentDetector, ContentOptions, CutList, FilterMode, Refusal, Sums,
+};
 
 const FILM: [(i64, u8); 4] = [(0, 0), (400000, 200), (900000, 0), (2000000, 0)];
 
@@ -62,5 +64,45 @@ fn main() -> Result<(), Refusal> {
         }
     }
     println!("adaptive cuts {cuts:?}");
+    list_of_cuts()
+}
+
+// A list of the cuts at 400000, 1400000 and 2400000, a second apart: in Suppress none of one stretch is refused.
+fn list_of_cuts() -> Result<(), Refusal> {
+    let options = ContentOptions {
+        filter_mode: FilterMode::Suppress,
+        weights: Components::LUMA_ONLY_WEIGHTS,
+        ..ContentOptions::default()
+    };
+    let mut detector = ContentDetector::with_options(options)?;
+    let mut list = CutList::new(options.min_duration);
+    for (ts, luma) in [(0, 100), (400000, 130), (900000, 100), (1400000, 130), (2400000, 100)] {
+        if let Some(cut) = detector.process_luma(&[luma], 1, 1, 1, ts)?.cut {
+            list.add(cut)?;
+        }
+    }
+    println!("{list:?}");
+    println!("900000: nearest {:?}, clip {}", list.nearest(900000), list.clip(900000));
+    println!("from there on {:?}", &list.stamps()[list.span(900000, i64::MAX)]);
+    // a stored list can be read back; what is not a list is refused
+    let mut stored = CutList::from_words(list.words(), list.memory())?;
+    assert_eq!(CutList::from_words(&[0; 3], list.memory()).err(), Some(Refusal(15)));
+    assert_eq!(CutList::from_words(list.words(), &[0; 512]).err(), Some(Refusal(15)));
+    // too close to a stamp before or after it, and absent: nothing changes
+    for ts in [1399999, 1400000, 3399999] {
+        assert_eq!(stored.add(ts), Err(Refusal(17)));
+    }
+    assert_eq!(stored.remove(1399999), Err(Refusal(19)));
+    assert_eq!((stored.words(), stored.memory()), (list.words(), list.memory()));
+    stored.remove(1400000)?;
+    assert_eq!((stored.stamps(), stored.len(), stored.min_duration()), (&[400000, 2400000][..], 2, 1000000));
+    stored.empty();
+    assert!(stored.is_empty() && stored.nearest(0).is_none() && stored.span(i64::MIN, i64::MAX) == (0..0));
+    // 512 stamps and no more
+    let mut full = CutList::new(0);
+    for ts in 0..512 {
+        full.add(ts)?;
+    }
+    assert_eq!((full.add(511), full.add(512)), (Err(Refusal(17)), Err(Refusal(18))));
     Ok(())
 }

@@ -2,7 +2,8 @@
  *
  * A program hands in the frames of a stream in order, as luma, BGR or HSV bytes, each with a timestamp in microseconds.
  * The library scores how much each frame differs from the frame before and reports the timestamps of the cuts. The
- * content detector compares a score with a fixed threshold, the adaptive detector with the scores around it.
+ * content detector compares a score with a fixed threshold, the adaptive detector with the scores around it. A list
+ * keeps the cuts at hand while the film runs.
  *
  * The functions of the library are proved. As long as the caller sees to what is listed below under "Duties of a
  * caller", a call ends, does nothing undefined and touches no memory but its stack and what it is lent, whatever the
@@ -34,8 +35,8 @@
  * Build it: cc film.c $(pkg-config --cflags --libs mawerodu). The library is libstation.a, for x86-64 Linux; it needs
  * nothing but memcpy, memmove and memset.
  *
- * Order of this file: version, types and sizes, numbers, duties, settings, scores, cuts, frames, readers, struct
- * mw_memory, and last the layout of the words.
+ * Order of this file: version, types and sizes, numbers, duties, settings, scores, cuts, frames, readers, the list of a
+ * sitting, struct mw_memory, and last the layout of the words.
  */
 #ifndef MAWERODU_H
 #define MAWERODU_H
@@ -52,7 +53,7 @@ extern "C" {
 /* ---- Version ---- */
 
 #define MW_VERSION_MAJOR 0
-#define MW_VERSION_MINOR 3
+#define MW_VERSION_MINOR 4
 #define MW_VERSION_PATCH 0
 #define MW_VERSION ((MW_VERSION_MAJOR << 16) | (MW_VERSION_MINOR << 8) | MW_VERSION_PATCH)
 
@@ -114,9 +115,13 @@ uint64_t mw_magnitudes(uint32_t width, uint32_t height);
  *   mw_adaptive_new   10, 11, 6, 7, 8, 9
  *   a frame           15, 1, 2, 3, 4, 5, 12, 13, 14
  *   clear             15
+ *   mw_list_add       15, 17, 18
+ *   mw_list_remove    15, 19
+ *   other list calls  15; mw_list_new refuses nothing
  * A frame or clear that is refused changes nothing: not the state, not the answer, no byte that it is lent. The answer
  * is then still that of an earlier call: do not read it. Only the feed calls, those with a struct mw_memory, empty the
- * answer first: after a refusal it has no cut and no score, and its sums and its count are 0. Settings that are refused
+ * answer first: after a refusal it has no cut and no score, and its sums and its count are 0. A list call that is
+ * refused changes nothing either: not the list, no stamp, and not the memory for its result. Settings that are refused
  * make a state with the default settings. */
 enum mw_number {
     MW_OK = 0,
@@ -134,7 +139,12 @@ enum mw_number {
     MW_STORE_SHORT = 12,     /* store, scratch, magnitudes shorter than the frame needs */
     MW_SCRATCH_SHORT = 13,
     MW_MAGNITUDES_SHORT = 14,
-    MW_BAD_STATE = 15        /* words that are not a state of this detector; in mw_content_new, not a filter_mode */
+    MW_BAD_STATE = 15,       /* words that are not a state of this detector; in mw_content_new, not a filter_mode; in a
+                                list call, words and stamps that are not a list */
+    /* 16 is a line that the session program refuses; no function of this library returns it */
+    MW_STAMP_TOO_CLOSE = 17, /* a stamp to add equals one of the list, or is closer to one than min_duration */
+    MW_LIST_FULL = 18,       /* a stamp to add, to a list that holds 512 */
+    MW_STAMP_ABSENT = 19     /* a stamp to remove that is not in the list */
 };
 
 /* A number in words, for a log. */
@@ -172,7 +182,13 @@ static inline const char *mw_text(uint32_t number)
     case MW_MAGNITUDES_SHORT:
         return "magnitudes are too short";
     case MW_BAD_STATE:
-        return "not a valid state, or not a filter mode";
+        return "not a valid state or list, or not a filter mode";
+    case MW_STAMP_TOO_CLOSE:
+        return "the stamp equals one of the list, or is closer to one than min_duration";
+    case MW_LIST_FULL:
+        return "the list holds 512 stamps";
+    case MW_STAMP_ABSENT:
+        return "the stamp is not in the list";
     default:
         return "unknown number";
     }
@@ -181,12 +197,12 @@ static inline const char *mw_text(uint32_t number)
 /* ---- Duties of a caller ----
  *
  * The proofs assume these, and no call can check them. Memory is the state, the answer, the planes, the store, the
- * scratch and the magnitudes.
+ * scratch and the magnitudes; in a list call it is the list, its stamps and the result (nearest, span or clip).
  *   - Pointers: none is NULL, even where its length is 0. Each is aligned for its type, and points to a whole struct or
- *     to at least as many elements as the length after it says. Lengths count elements: bytes, or int32_t's of
- *     magnitudes.
+ *     to at least as many elements as the length after it says. Lengths count elements: bytes, int32_t's of magnitudes,
+ *     int64_t's of stamps.
  *   - Overlap: no two of state, answer, store, scratch and magnitudes overlap, nor does one of them overlap a plane.
- *     Planes are only read, and may overlap each other.
+ *     Planes are only read, and may overlap each other. No two of list, stamps and result overlap.
  *   - Others: until the call returns, nobody else writes to any of the memory, planes included, or reads what the call
  *     writes.
  *   - Floating point: results are rounded to nearest, floating-point exceptions are masked, and denormal numbers are
@@ -197,7 +213,8 @@ static inline const char *mw_text(uint32_t number)
  *     measured, and not proved.
  *
  * Threads: there is no global data, so calls on different states may run at the same time, each with an answer, a
- * store, a scratch and magnitudes of its own. They may read the same planes. */
+ * store, a scratch and magnitudes of its own. They may read the same planes. Calls on different lists may run at the
+ * same time too, each with stamps and a result of its own; calls that only read a list may share it and its stamps. */
 
 /* ---- Settings ----
  *
@@ -418,6 +435,89 @@ double mw_adaptive_ratio(const struct mw_adaptive *state);
 uint32_t mw_adaptive_has_target(const struct mw_adaptive *state);
 double mw_adaptive_target(const struct mw_adaptive *state);
 
+/* ---- The list of a sitting ----
+ *
+ * A list keeps the cuts of a sitting at hand while the film runs: up to 512 stamps (timestamps in microseconds) in
+ * strictly rising order, each at least min_duration after the one before, in memory that the caller lends. Stamps can
+ * be added and removed in any order, and looked up: the one nearest to a given stamp, those within a span, and the
+ * number of the clip that a stamp is in.
+ *
+ *     struct mw_list list;
+ *     int64_t stamps[MW_LIST_PLACES];
+ *
+ *     mw_list_new(&list, MW_DEFAULT_MIN_DURATION);
+ *     ... after each frame that is accepted:
+ *     if (mw_cut(&memory.answer, &cut))
+ *         number = mw_list_add(&list, stamps, MW_LIST_PLACES, cut);
+ *
+ * The cuts of a content detector: with MW_SUPPRESS and a min_duration of at least 1, the cuts of one stretch can be
+ * added, in the order in which they are reported, to an empty list of the same min_duration. None of them is refused by
+ * 17, and by 18 only those from the 513th on. This is proved. Other cuts may be refused by 17: with a min_duration of 0
+ * two cuts can be equal, and those of two stretches, or in MW_MERGE of one whose timestamps fall, can be closer to each
+ * other than min_duration. A list with a min_duration of 0 or 1 takes all stamps that differ, up to 512.
+ *
+ * list and stamps belong together: hand both to the next call as the last call left them. At least MW_LIST_PLACES
+ * int64_t's of stamps are needed; more are accepted, and those from place MW_LIST_PLACES on are never read or written.
+ * Before the first call their contents do not matter: mw_list_new neither reads nor writes them. The stamps of the list
+ * are in the first count places; count is what mw_list_clip gives for INT64_MAX. The places after them keep their
+ * contents, except that a place that becomes free is set to 0. A list holds no pointer, so it may be copied, and kept
+ * in a file together with its stamps.
+ *
+ * Each call on a list but mw_list_new first checks it, also one that only reads it. 15 is returned for words of another
+ * version, a count over 512, a stamps_len under 512, and stamps in the first count places that do not rise or are
+ * closer to each other than min_duration. A list that mw_list_new made is never refused by 15, as long as the list and
+ * its 512 places are handed back as they were left. This is proved too.
+ *
+ * Differences are taken in whole numbers, up to 2^64 - 1; nothing wraps. */
+
+#define MW_LIST_WORDS 3
+#define MW_LIST_PLACES 512
+
+/* A list: its min_duration and its count. The stamps themselves are in the memory that is lent beside it. */
+struct mw_list {
+    uint64_t words[MW_LIST_WORDS];
+};
+
+/* The macros above, as the library has them. */
+uint64_t mw_list_words(void);
+uint64_t mw_list_places(void);
+
+/* Makes a list without stamps. It refuses nothing: any min_duration will do. */
+void mw_list_new(struct mw_list *list, uint64_t min_duration);
+
+/* Adds a stamp in its place: the stamps after it move on by one. Refused by 15; by 17 if it equals a stamp of the list,
+ * or is closer to one than min_duration, before or after it; by 18 if the list holds 512. */
+uint32_t mw_list_add(struct mw_list *list, int64_t *stamps, size_t stamps_len, int64_t ts);
+
+/* Removes a stamp: the stamps after it move back by one, and the place that becomes free is set to 0. Refused by 15; by
+ * 19 if it is not in the list. */
+uint32_t mw_list_remove(struct mw_list *list, int64_t *stamps, size_t stamps_len, int64_t ts);
+
+/* Removes all stamps: their places are set to 0. min_duration stays. Refused by 15. */
+uint32_t mw_list_empty(struct mw_list *list, int64_t *stamps, size_t stamps_len);
+
+/* The stamp of the list that is nearest to ts, the earlier one of two that are as near. Refused by 15. */
+struct mw_nearest {
+    uint64_t has; /* 1; in a list without stamps 0, and ts is 0 */
+    int64_t ts;
+};
+uint32_t mw_list_nearest(const struct mw_list *list, const int64_t *stamps, size_t stamps_len, int64_t ts,
+                         struct mw_nearest *nearest);
+
+/* The stamps of the list that are not before from and not after to. Both are 0 if there is none, as when from is later
+ * than to. Refused by 15. */
+struct mw_span {
+    uint64_t first; /* the place of the first of them, from 0 */
+    uint64_t count; /* how many they are: stamps[first] to stamps[first + count - 1] */
+};
+uint32_t mw_list_span(const struct mw_list *list, const int64_t *stamps, size_t stamps_len, int64_t from, int64_t to,
+                      struct mw_span *span);
+
+/* The clip that ts is in: how many stamps of the list are at or before it. Clip 0 is what comes before the first cut; a
+ * later one starts at stamps[clip - 1]. Refused by 15. */
+uint32_t mw_list_clip(const struct mw_list *list, const int64_t *stamps, size_t stamps_len, int64_t ts,
+                      uint64_t *clip);
+
 /* ---- All memory of a frame call in one struct ----
  *
  * One struct mw_memory belongs to one state, since it has the store. These functions are plain C on top of the library:
@@ -557,10 +657,10 @@ static inline uint32_t mw_adaptive_feed_hsv(struct mw_adaptive *state, struct mw
 
 /* ---- Layout of the words ----
  *
- * For those who look into a state or keep it in a file; a program that calls the functions above does not need it. One
- * word for each field: a double as its bits (a NaN, of which there is none in a state that a run of calls made, is
- * written as 0x7ff8000000000000), a timestamp in two's complement. A `has` is 0 or 1; what follows a `has` of 0 is
- * written as 0, and is not looked at.
+ * For those who look into a state or a list, or keep it in a file; a program that calls the functions above does not
+ * need it. One word for each field: a double as its bits (a NaN, of which there is none in a state that a run of calls
+ * made, is written as 0x7ff8000000000000), a timestamp in two's complement. A `has` is 0 or 1; what follows a `has` of
+ * 0 is written as 0, and is not looked at.
  *
  *   answer
  *     0, 1             has, timestamp of the cut
@@ -568,6 +668,11 @@ static inline uint32_t mw_adaptive_feed_hsv(struct mw_adaptive *state, struct mw
  *     4-7              components: hue, saturation, luma, edges
  *     8-11             sums: hue, saturation, luma, edges
  *     12               count
+ *
+ *   list
+ *     0                version of the layout: 0x4d574c4953543031 (MWLIST01)
+ *     1                min_duration
+ *     2                count
  *
  *   content  adaptive
  *       0        0     version of the layout: 0x4d57434f4e543031 (MWCONT01) or 0x4d57414441503031 (MWADAP01)
@@ -597,7 +702,8 @@ static inline uint32_t mw_adaptive_feed_hsv(struct mw_adaptive *state, struct mw
  * 15 is returned for words that are not a state: another version; a `has`, a 0-or-1 field or filter_mode that is over
  * 1; a window_width, width or height over 2^32 - 1; a kernel_size over 2^32 - 1 whose `has` is 1. And for a state with
  * one of these, which no run of calls makes: settings that would be refused, a width or height over 4,096, more than
- * 2 * window_width + 1 scores in the window, a merge that is pending without a start or a last frame above. */
+ * 2 * window_width + 1 scores in the window, a merge that is pending without a start or a last frame above. What is not
+ * a list is said above, under "The list of a sitting". */
 
 #ifdef __cplusplus
 }

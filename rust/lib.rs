@@ -15,11 +15,11 @@
 //! ```
 //!
 //! [`ContentDetector`] compares each score with a fixed threshold. [`AdaptiveDetector`] compares it with the scores of
-//! the frames around it and reports the cut some frames later.
+//! the frames around it and reports the cut some frames later. [`CutList`] keeps the cuts at hand while the film runs.
 //!
-//! A detector owns its state and the memory that the library works on, so no call is refused for short memory. A call
-//! that is refused returns a [`Refusal`] and changes nothing: the stream goes on as if the call had not been made.
-//! Different threads may use different detectors at the same time.
+//! A detector owns its state and the memory that the library works on, so no call is refused for short memory; so does
+//! a list. A call that is refused returns a [`Refusal`] and changes nothing: the stream goes on as if the call had not
+//! been made. Different threads may use different detectors and lists at the same time.
 //!
 //! No other crate is needed, only the archive `libstation.a`, of the same version up to the patch number (see
 //! [`VERSION`]). With cargo, `build.rs` finds it and has it linked; it says where it looks. With `rustc` alone, hand it
@@ -78,15 +78,18 @@
 #![warn(missing_docs)]
 
 use std::fmt;
+use std::ops::Range;
 
-/// The C functions of the library. `include/mawerodu.h` says what each does and what it asks of its caller. The states
-/// and the answer have a fixed number of words and are passed as pointers to arrays; every other piece of memory is a
-/// pointer and the number of its elements.
+/// The C functions of the library. `include/mawerodu.h` says what each does and what it asks of its caller. The states,
+/// the answer and the record of a list have a fixed number of words and are passed as pointers to arrays, the results
+/// of list calls as pointers; every other piece of memory is a pointer and the number of its elements.
 #[allow(missing_docs, clippy::missing_safety_doc)]
 pub mod sys {
     pub const CONTENT_WORDS: usize = 27;
     pub const ADAPTIVE_WORDS: usize = 288;
     pub const ANSWER_WORDS: usize = 13;
+    pub const LIST_WORDS: usize = 3;
+    pub const LIST_PLACES: usize = 512;
 
     /// The state of a content detector.
     pub type ContentState = [u64; CONTENT_WORDS];
@@ -94,6 +97,24 @@ pub mod sys {
     pub type AdaptiveState = [u64; ADAPTIVE_WORDS];
     /// The result of an accepted frame.
     pub type Answer = [u64; ANSWER_WORDS];
+    /// The record of a list; its stamps are in memory beside it.
+    pub type List = [u64; LIST_WORDS];
+
+    /// The stamp of a list that is nearest to another.
+    #[repr(C)]
+    #[derive(Clone, Copy, Debug, Default, PartialEq, Eq)]
+    pub struct Nearest {
+        pub has: u64,
+        pub ts: i64,
+    }
+
+    /// The stamps of a list within a span: the place of the first, and their number.
+    #[repr(C)]
+    #[derive(Clone, Copy, Debug, Default, PartialEq, Eq)]
+    pub struct Span {
+        pub first: u64,
+        pub count: u64,
+    }
 
     extern "C" {
         pub fn mw_version() -> u32;
@@ -216,11 +237,37 @@ pub mod sys {
         pub fn mw_adaptive_has_components(state: *const AdaptiveState) -> u32;
         pub fn mw_adaptive_component(state: *const AdaptiveState, place: u32) -> f64;
     }
+
+    extern "C" {
+        pub fn mw_list_words() -> u64;
+        pub fn mw_list_places() -> u64;
+        pub fn mw_list_new(list: *mut List, min_duration: u64);
+        pub fn mw_list_add(list: *mut List, stamps: *mut i64, stamps_len: usize, ts: i64) -> u32;
+        pub fn mw_list_remove(list: *mut List, stamps: *mut i64, stamps_len: usize, ts: i64) -> u32;
+        pub fn mw_list_empty(list: *mut List, stamps: *mut i64, stamps_len: usize) -> u32;
+        pub fn mw_list_nearest(
+            list: *const List,
+            stamps: *const i64,
+            stamps_len: usize,
+            ts: i64,
+            nearest: *mut Nearest,
+        ) -> u32;
+        pub fn mw_list_span(
+            list: *const List,
+            stamps: *const i64,
+            stamps_len: usize,
+            from: i64,
+            to: i64,
+            span: *mut Span,
+        ) -> u32;
+        pub fn mw_list_clip(list: *const List, stamps: *const i64, stamps_len: usize, ts: i64, clip: *mut u64) -> u32;
+    }
 }
 
 /// The version of this wrapper: major, minor, patch. A library whose major and minor number are these has the functions
-/// that `sys` declares. Each constructor of a detector checks that, and panics if the linked library is another.
-pub const VERSION: (u32, u32, u32) = (0, 3, 0);
+/// that `sys` declares. Each constructor of a detector or a list checks that, and panics if the linked library is
+/// another.
+pub const VERSION: (u32, u32, u32) = (0, 4, 0);
 
 /// The version of the library that is linked: major, minor, patch.
 pub fn version() -> (u32, u32, u32) {
@@ -229,7 +276,8 @@ pub fn version() -> (u32, u32, u32) {
     (number >> 16, number >> 8 & 255, number & 255)
 }
 
-/// The number of a refusal, 1 to 15; `Display` says what it means. The refused call changed nothing.
+/// The number of a refusal, 1 to 15 or 17 to 19; `Display` says what it means. The refused call changed nothing. (16 is
+/// a line that the session program refuses, and no call here returns it.)
 #[derive(Clone, Copy, Debug, PartialEq, Eq)]
 pub struct Refusal(pub u32);
 
@@ -250,7 +298,10 @@ impl fmt::Display for Refusal {
             12 => "store is too short",
             13 => "scratch is too short",
             14 => "magnitudes are too short",
-            15 => "not a valid state",
+            15 => "not a valid state or list",
+            17 => "the stamp equals one of the list, or is closer to one than min_duration",
+            18 => "the list holds 512 stamps",
+            19 => "the stamp is not in the list",
             _ => "unknown refusal",
         };
         write!(f, "{}: {what}", self.0)
@@ -483,16 +534,16 @@ fn answer_of(w: &sys::Answer) -> Answer {
     }
 }
 
-/// Words for a state, once the library is known to have the functions that `sys` declares, and states and answers of as
-/// many words as here: another one would take other arguments, or write past the words. The numbers of words alone do
-/// not tell: they were the same in 0.1.0 and 0.2.0, whose functions differ.
+/// Words for a state or a list, once the library is known to have the functions that `sys` declares, and states, lists
+/// and answers of as many words as here: another one would take other arguments, or write past the words. The numbers
+/// of words alone do not tell: they were the same in 0.1.0 and 0.2.0, whose functions differ.
 fn blank<const N: usize>(library: u64) -> [u64; N] {
     let (major, minor, _) = version();
     assert_eq!((major, minor), (VERSION.0, VERSION.1), "the linked library has another version than this wrapper");
     // SAFETY: it takes nothing and returns a number.
     let answer = unsafe { sys::mw_answer_words() };
     let here = (N as u64, sys::ANSWER_WORDS as u64);
-    assert_eq!((library, answer), here, "the linked library has states or answers of another size than this wrapper");
+    assert_eq!((library, answer), here, "the linked library has records or answers of another size than this wrapper");
     [0; N]
 }
 
@@ -785,5 +836,159 @@ impl AdaptiveDetector {
     pub fn last_target_score(&self) -> Option<f64> {
         let state = &self.state;
         unsafe { (sys::mw_adaptive_has_target(state) == 1).then(|| sys::mw_adaptive_target(state)) }
+    }
+}
+
+/// A list of cuts, to keep them at hand while the film runs: up to 512 stamps (timestamps in microseconds) in strictly
+/// rising order, each at least `min_duration` after the one before. Stamps can be added and removed in any order.
+///
+/// ```text
+/// let options = ContentOptions { filter_mode: FilterMode::Suppress, ..ContentOptions::default() };
+/// let mut detector = ContentDetector::with_options(options)?;
+/// let mut cuts = CutList::new(options.min_duration);
+/// for (ts, luma) in frames {
+///     if let Some(cut) = detector.process_luma(&luma, width, height, width, ts)?.cut {
+///         cuts.add(cut)?;
+///     }
+///     println!("clip {}", cuts.clip(ts));
+/// }
+/// println!("in the first minute: {:?}", &cuts.stamps()[cuts.span(0, 60_000_000)]);
+/// ```
+///
+/// With [`FilterMode::Suppress`] and a `min_duration` of at least 1, the cuts of one stretch can be added, in the order
+/// in which they are reported, to an empty list of the same `min_duration`: none is refused by 17, and by 18 only those
+/// from the 513th on. This is proved of the library. Other cuts may be refused by 17: with a `min_duration` of 0 two
+/// cuts can be equal, and those of two stretches, or with [`FilterMode::Merge`] of one whose timestamps fall, can be
+/// closer to each other than `min_duration`. A list with a `min_duration` of 0 or 1 takes all stamps that differ, up to
+/// 512.
+///
+/// A `CutList` is always a valid list, so that only `add`, `remove` and `from_words` can be refused.
+#[derive(Clone)]
+pub struct CutList {
+    words: sys::List,
+    memory: Box<[i64; sys::LIST_PLACES]>,
+}
+
+// SAFETY of the calls in a list: `blank` and `with_memory` checked that the library has these functions, and that its
+// lists have as many words and places as here; words and memory are the list's own, and a result is a variable of the
+// method; each lives through the call, none overlaps another, and what is written is used by nobody else.
+impl CutList {
+    /// A list without stamps. It panics if the linked library has another version than [`VERSION`], the patch number
+    /// aside; so does `from_words`.
+    pub fn new(min_duration: u64) -> Self {
+        let mut list = Self::with_memory([0; sys::LIST_PLACES]);
+        unsafe { sys::mw_list_new(&mut list.words, min_duration) };
+        list
+    }
+
+    /// A list that `words` and `memory` of another one were stored from. Refused by 15 if they are not a valid list:
+    /// words of another version, a count over 512, stamps that do not rise or are closer to each other than
+    /// `min_duration`.
+    pub fn from_words(words: &sys::List, memory: &[i64; sys::LIST_PLACES]) -> Result<Self, Refusal> {
+        let mut list = Self::with_memory(*memory);
+        list.words = *words;
+        list.counted(0)?;
+        Ok(list)
+    }
+
+    /// Words that are not a list yet, and this memory.
+    fn with_memory(memory: [i64; sys::LIST_PLACES]) -> Self {
+        let words = blank(unsafe { sys::mw_list_words() });
+        let places = unsafe { sys::mw_list_places() };
+        assert_eq!(places, sys::LIST_PLACES as u64, "the linked library has lists of another size than this wrapper");
+        CutList { words, memory: Box::new(memory) }
+    }
+
+    /// The record as plain words, which can be stored together with `memory` and handed to `from_words` later.
+    pub fn words(&self) -> &sys::List {
+        &self.words
+    }
+
+    /// The memory of the list: its stamps, then the places that are free.
+    pub fn memory(&self) -> &[i64; sys::LIST_PLACES] {
+        &self.memory
+    }
+
+    /// The stamps, the earliest first.
+    pub fn stamps(&self) -> &[i64] {
+        &self.memory[..self.len()]
+    }
+
+    /// How many stamps the list holds, at most 512.
+    pub fn len(&self) -> usize {
+        self.words[2] as usize
+    }
+
+    /// Whether the list holds no stamp.
+    pub fn is_empty(&self) -> bool {
+        self.len() == 0
+    }
+
+    /// The least time from one stamp to the next, in microseconds.
+    pub fn min_duration(&self) -> u64 {
+        self.words[1]
+    }
+
+    /// Adds a stamp. Refused by 17 if it equals a stamp of the list, or is closer to one than `min_duration`, before or
+    /// after it; then by 18 if the list holds 512.
+    pub fn add(&mut self, ts: i64) -> Result<(), Refusal> {
+        let (memory, places) = (self.memory.as_mut_ptr(), self.memory.len());
+        passed(unsafe { sys::mw_list_add(&mut self.words, memory, places, ts) })
+    }
+
+    /// Removes a stamp. Refused by 19 if it is not in the list.
+    pub fn remove(&mut self, ts: i64) -> Result<(), Refusal> {
+        let (memory, places) = (self.memory.as_mut_ptr(), self.memory.len());
+        passed(unsafe { sys::mw_list_remove(&mut self.words, memory, places, ts) })
+    }
+
+    /// Removes all stamps; `min_duration` stays.
+    pub fn empty(&mut self) {
+        let (memory, places) = (self.memory.as_mut_ptr(), self.memory.len());
+        let number = unsafe { sys::mw_list_empty(&mut self.words, memory, places) };
+        debug_assert_eq!(number, 0);
+    }
+
+    /// The stamp nearest to `ts`, the earlier one of two that are as near; `None` in a list without stamps.
+    pub fn nearest(&self, ts: i64) -> Option<i64> {
+        let mut nearest = sys::Nearest::default();
+        let (memory, places) = (self.memory.as_ptr(), self.memory.len());
+        let number = unsafe { sys::mw_list_nearest(&self.words, memory, places, ts, &mut nearest) };
+        debug_assert_eq!(number, 0);
+        (nearest.has == 1).then_some(nearest.ts)
+    }
+
+    /// The stamps that are not before `from` and not after `to`, as a range of places: `&stamps()[span(from, to)]` has
+    /// them. It is `0..0` if there is none, as when `from` is later than `to`.
+    pub fn span(&self, from: i64, to: i64) -> Range<usize> {
+        let mut span = sys::Span::default();
+        let (memory, places) = (self.memory.as_ptr(), self.memory.len());
+        let number = unsafe { sys::mw_list_span(&self.words, memory, places, from, to, &mut span) };
+        debug_assert_eq!(number, 0);
+        span.first as usize..(span.first + span.count) as usize
+    }
+
+    /// The clip that `ts` is in: how many stamps are at or before it. Clip 0 is what comes before the first cut, and a
+    /// later clip `n` starts at `stamps()[n - 1]`.
+    pub fn clip(&self, ts: i64) -> usize {
+        let clip = self.counted(ts);
+        debug_assert!(clip.is_ok());
+        clip.unwrap_or(0)
+    }
+
+    /// The clip of a stamp; 15 if this is not a valid list.
+    fn counted(&self, ts: i64) -> Result<usize, Refusal> {
+        let mut clip = 0;
+        let (memory, places) = (self.memory.as_ptr(), self.memory.len());
+        passed(unsafe { sys::mw_list_clip(&self.words, memory, places, ts, &mut clip) })?;
+        Ok(clip as usize)
+    }
+}
+
+/// Shows `min_duration` and the stamps.
+impl fmt::Debug for CutList {
+    fn fmt(&self, f: &mut fmt::Formatter<'_>) -> fmt::Result {
+        let (min_duration, stamps) = (self.min_duration(), self.stamps());
+        f.debug_struct("CutList").field("min_duration", &min_duration).field("stamps", &stamps).finish()
     }
 }

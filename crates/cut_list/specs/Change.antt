@@ -1,5 +1,5 @@
 -- Adding a stamp, removing one, emptying the list (RULES 17.4 to 17.6). A refused operation changes no record and no place of the memory.
-use Prim.Native.Nat.{ℕ, suc, _+_, _-_}
+use Prim.Native.Nat.{ℕ, _+_, _-_}
 use mathlib.Core.Bool.{Bool, false, cond, not, _||_}
 use mathlib.Core.List.{List, [], _∷_, _++_}
 use lib.Dec.{eqb, ltb}

@@ -1,6 +1,6 @@
 -- Reading a list (RULES 17.7 to 17.9): the stamp nearest to a given one, the stamps within a span, the clip of a stamp. A refused reader answers
 -- none, 0 and 0, or 0.
-use Prim.Native.Nat.{ℕ, suc, _+_}
+use Prim.Native.Nat.{ℕ, _+_}
 use mathlib.Core.Bool.{Bool, cond, _&&_}
 use mathlib.Core.List.{List, [], _∷_}
 use lib.Dec.{eqb, ltb}

@@ -342,7 +342,8 @@ fn nearest_of(memory: &[i64], count: usize, ts: Timestamp) -> Timestamp
 pub fn nearest(list: CutList, memory: &[i64], ts: Timestamp) -> NearestStamp
     ensures { λ r. ⌜ r ≡ nearestIn (held list (now (memory .entry))) (ts .micros) ⌝ }
 {
-    if is_bad(list, memory) {
+    let nearest_bad = is_bad(list, memory);
+    if nearest_bad {
         return NearestStamp {
             number: 15,
             nearest: MaybeTimestamp::None,
@@ -366,7 +367,8 @@ pub fn nearest(list: CutList, memory: &[i64], ts: Timestamp) -> NearestStamp
 pub fn span(list: CutList, memory: &[i64], a: Timestamp, b: Timestamp) -> StampsWithin
     ensures { λ r. ⌜ r ≡ spanIn (held list (now (memory .entry))) (a .micros) (b .micros) ⌝ }
 {
-    if is_bad(list, memory) {
+    let span_bad = is_bad(list, memory);
+    if span_bad {
         return StampsWithin {
             number: 15,
             first: 0,
@@ -393,7 +395,8 @@ pub fn span(list: CutList, memory: &[i64], a: Timestamp, b: Timestamp) -> Stamps
 pub fn clip(list: CutList, memory: &[i64], ts: Timestamp) -> ClipOfStamp
     ensures { λ r. ⌜ r ≡ clipIn (held list (now (memory .entry))) (ts .micros) ⌝ }
 {
-    if is_bad(list, memory) {
+    let clip_bad = is_bad(list, memory);
+    if clip_bad {
         return ClipOfStamp {
             number: 15,
             clip: 0,

@@ -1,9 +1,9 @@
 -- What holds of every list of operations on a list of stamps (RULES 17.11), of the cuts that go into one (RULES 17.12), and of the readers
 -- together (RULES 17.13).
-use Prim.Native.Nat.{ℕ, _+_, _-_, _≤_, _<_, min}
+use Prim.Native.Nat.{ℕ, _-_, _≤_, _<_, min}
 use mathlib.Core.Path.{_≡_}
-use mathlib.Core.Bool.{Bool, true, false}
-use mathlib.Core.List.{List, [], _∷_, _++_, map}
+use mathlib.Core.Bool.{true, false}
+use mathlib.Core.List.{List, _∷_, _++_, map}
 use lib.IntN.{ℤ, pos, _+ℤ_}
 use lib.ListN.{length, getD, take, drop, replicate}
 use lib.Signed.{_≤ℤ_, _<ℤ_}

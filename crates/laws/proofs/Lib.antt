@@ -17,3 +17,4 @@ pub mod FloatTests
 pub mod InPlace
 pub mod Stepped
 pub mod MaxAt
+pub mod Bools

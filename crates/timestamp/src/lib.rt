@@ -62,11 +62,7 @@ pub fn distance(x: Timestamp, y: Timestamp) -> u64
 {
     let a = raised(x.micros);
     let b = raised(y.micros);
-    if b <= a {
-        a - b
-    } else {
-        b - a
-    }
+    if b <= a { a - b } else { b - a }
 }
 
 // The stamp less the duration; it stops at -2^63 (RULES 1.3).

@@ -1,42 +1,38 @@
+-- `cut_list::count_before` meets its contract. The invariant: n of the first i stamps have the property.
+use Prim.Native.Nat.{_≤_, _-_}
+use native.Mathlib.Omega.{arith}
+use lib.IntN.{ℤ}
+use lib.Signed.{ltZ}
+use Rattle.cut_list.proofs.Walks.{Counted, counted-none, counted-le, counted-more, counted-all}
 use Rattle.cut_list.proofs.count_before.Statement.{statement}
 use Rattle.cut_list.proofs.count_before.Tie as tie
-use Rattle.cut_list.proofs.count_before.Reads as reads
-use Rattle.cut_list.proofs.count_before.Lts as lts
-use Rattle.cut_list.proofs.one_if_before.Reads as one-if-before-reads
 
 abbrev Inv-loop : tie.InvT-loop
-Inv-loop memory count ts n₀ i₀ n i = ?
+Inv-loop memory count ts n₀ i₀ n i = (i ≤ count) × Counted (λ (x : ℤ). ltZ x (ts .micros)) memory i n
 
 abbrev μ-loop : tie.MeasureT-loop
-μ-loop memory count ts n₀ i₀ n i = ?
+μ-loop memory count ts n₀ i₀ n i = count - i
 
--- src/lib.rt:136:5
 loop-holds : tie.Need-loop-holds Inv-loop μ-loop
-loop-holds c = ?
+loop-holds c = (omega arith, counted-none _ _)
 
--- src/lib.rt:137:14
 one-if-before-requires : tie.Need-one-if-before-requires Inv-loop μ-loop
-one-if-before-requires c κs = ?
+one-if-before-requires c κs = omega arith
 
--- src/lib.rt:137:9
 add-n : tie.Need-add-n Inv-loop μ-loop
-add-n c = ?
+add-n c = omega (arith, counted-le (counted-more (c .before .before .loop .inv .1) (omega arith) (c .one-if-before .ensures)))
 
--- src/lib.rt:138:9
 add-i : tie.Need-add-i Inv-loop μ-loop
-add-i c = ?
+add-i c = omega arith
 
--- src/lib.rt:136:5
 loop-less : tie.Need-loop-less Inv-loop μ-loop
-loop-less c = ?
+loop-less c = omega arith
 
--- src/lib.rt:136:5
 loop-again : tie.Need-loop-again Inv-loop μ-loop
-loop-again c = ?
+loop-again c = (omega arith, counted-more (c .before .before .loop .inv .1) (omega arith) (c .one-if-before .ensures))
 
--- src/lib.rt:130:1
 returns : tie.Need-returns Inv-loop μ-loop
-returns c = ?
+returns c = counted-all (c .before .loop .inv .1) (c .before .loop .inv .0) (c .loop-test .left)
 
 pub count-before-spec : {M : Type 1} → statement M
 count-before-spec =

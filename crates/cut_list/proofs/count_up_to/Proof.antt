@@ -1,42 +1,40 @@
+-- `cut_list::count_up_to` meets its contract. The invariant: n of the first i stamps have the property.
+use Prim.Native.Nat.{_≤_, _-_}
+use native.Mathlib.Omega.{arith}
+use lib.IntN.{ℤ}
+use lib.Signed.{leZ}
+use Rattle.cut_list.specs.Find.{clipOf}
+use Rattle.cut_list.proofs.Walks.{Counted, counted-none, counted-le, counted-more, counted-all}
 use Rattle.cut_list.proofs.count_up_to.Statement.{statement}
 use Rattle.cut_list.proofs.count_up_to.Tie as tie
-use Rattle.cut_list.proofs.count_up_to.Reads as reads
-use Rattle.cut_list.proofs.count_up_to.Lts as lts
-use Rattle.cut_list.proofs.one_if_up_to.Reads as one-if-up-to-reads
 
 abbrev Inv-loop : tie.InvT-loop
-Inv-loop memory count ts n₀ i₀ n i = ?
+Inv-loop memory count ts n₀ i₀ n i = (i ≤ count) × Counted (λ (x : ℤ). leZ x (ts .micros)) memory i n
 
 abbrev μ-loop : tie.MeasureT-loop
-μ-loop memory count ts n₀ i₀ n i = ?
+μ-loop memory count ts n₀ i₀ n i = count - i
 
--- src/lib.rt:150:5
 loop-holds : tie.Need-loop-holds Inv-loop μ-loop
-loop-holds c = ?
+loop-holds c = (omega arith, counted-none _ _)
 
--- src/lib.rt:151:14
 one-if-up-to-requires : tie.Need-one-if-up-to-requires Inv-loop μ-loop
-one-if-up-to-requires c κs = ?
+one-if-up-to-requires c κs = omega arith
 
--- src/lib.rt:151:9
 add-n : tie.Need-add-n Inv-loop μ-loop
-add-n c = ?
+add-n c = omega (arith, counted-le (counted-more (c .before .before .loop .inv .1) (omega arith) (c .one-if-up-to .ensures)))
 
--- src/lib.rt:152:9
 add-i : tie.Need-add-i Inv-loop μ-loop
-add-i c = ?
+add-i c = omega arith
 
--- src/lib.rt:150:5
 loop-less : tie.Need-loop-less Inv-loop μ-loop
-loop-less c = ?
+loop-less c = omega arith
 
--- src/lib.rt:150:5
 loop-again : tie.Need-loop-again Inv-loop μ-loop
-loop-again c = ?
+loop-again c = (omega arith, counted-more (c .before .before .loop .inv .1) (omega arith) (c .one-if-up-to .ensures))
 
--- src/lib.rt:144:1
 returns : tie.Need-returns Inv-loop μ-loop
-returns c = ?
+unfolding clipOf
+returns c = counted-all (c .before .loop .inv .1) (c .before .loop .inv .0) (c .loop-test .left)
 
 pub count-up-to-spec : {M : Type 1} → statement M
 count-up-to-spec =

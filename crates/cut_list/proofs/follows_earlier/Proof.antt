@@ -1,30 +1,23 @@
+-- `cut_list::follows_earlier` meets its contract. Assumes nothing.
 use borrow.Author.Needs.{needs}
+use borrow.Author.Tests.{eq-eqb, ne-eqb}
 use Rattle.cut_list.proofs.follows_earlier.Statement.{statement}
 use Rattle.cut_list.proofs.follows_earlier.Tie as tie
-use Rattle.cut_list.proofs.follows_earlier.Reads as reads
-use Rattle.cut_list.proofs.follows_earlier.Lts as lts
-use Rattle.cut_list.proofs.follows.Reads as follows-reads
-use Rattle.cut_list.proofs.stamp_at.Reads as stamp-at-reads
 
--- src/lib.rt:173:9
 returns : tie.Need-returns
-returns c = ?
+returns c = rw (eq-eqb _ _ (c .if1 .taken))
 
--- src/lib.rt:175:36
 sub-stamp-at : tie.Need-sub-stamp-at
 sub-stamp-at c = search needs
 
--- src/lib.rt:175:9
 stamp-at-requires : tie.Need-stamp-at-requires
 stamp-at-requires c κs = search needs
 
--- src/lib.rt:176:5
 follows-requires : tie.Need-follows-requires
 follows-requires c κs = search needs
 
--- src/lib.rt:168:1
 returns-2 : tie.Need-returns-2
-returns-2 c = ?
+returns-2 c = rw (ne-eqb _ _ (c .before .before .if1 .left), c .follows .ensures, c .before .stamp-at .ensures)
 
 pub follows-earlier-spec : {M : Type 1} → statement M
 follows-earlier-spec =

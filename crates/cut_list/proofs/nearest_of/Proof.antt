@@ -1,47 +1,41 @@
+-- `cut_list::nearest_of` meets its contract. The invariant: best is the nearest of the first i stamps.
+use Prim.Native.Nat.{_<_, _≤_, _-_}
+use native.Mathlib.Omega.{arith}
+use Rattle.cut_list.proofs.Walks.{Nearest, nearest-one, nearest-more, nearest-all}
 use Rattle.cut_list.proofs.nearest_of.Statement.{statement}
 use Rattle.cut_list.proofs.nearest_of.Tie as tie
-use Rattle.cut_list.proofs.nearest_of.Reads as reads
-use Rattle.cut_list.proofs.nearest_of.Lts as lts
-use Rattle.cut_list.proofs.nearer.Reads as nearer-reads
-use Rattle.cut_list.proofs.stamp_at.Reads as stamp-at-reads
 
 abbrev Inv-loop : tie.InvT-loop
-Inv-loop memory count ts best₀ i₀ best i = ?
+Inv-loop memory count ts best₀ i₀ best i = (0 < i) × (i ≤ count) × Nearest (ts .micros) memory i best
 
 abbrev μ-loop : tie.MeasureT-loop
-μ-loop memory count ts best₀ i₀ best i = ?
+μ-loop memory count ts best₀ i₀ best i = count - i
 
--- src/lib.rt:331:9
 stamp-at-requires : tie.Need-stamp-at-requires Inv-loop μ-loop
-stamp-at-requires c κs = ?
+stamp-at-requires c κs = omega arith
 
--- src/lib.rt:333:5
 loop-holds : tie.Need-loop-holds Inv-loop μ-loop
-loop-holds c = ?
+loop-holds c = (omega arith, omega arith, nearest-one _ _ _ (omega arith) (c .stamp-at .ensures))
 
--- src/lib.rt:334:13
 stamp-at-requires-2 : tie.Need-stamp-at-requires-2 Inv-loop μ-loop
-stamp-at-requires-2 c κs = ?
+stamp-at-requires-2 c κs = omega arith
 
--- src/lib.rt:335:9
 nearer-requires : tie.Need-nearer-requires Inv-loop μ-loop
-nearer-requires c κs = ?
+nearer-requires c κs = tt
 
--- src/lib.rt:336:9
 add-i : tie.Need-add-i Inv-loop μ-loop
-add-i c = ?
+add-i c = omega arith
 
--- src/lib.rt:333:5
 loop-less : tie.Need-loop-less Inv-loop μ-loop
-loop-less c = ?
+loop-less c = omega arith
 
--- src/lib.rt:333:5
 loop-again : tie.Need-loop-again Inv-loop μ-loop
-loop-again c = ?
+loop-again c =
+    let h = c .before .before .before .loop .inv in
+    (omega arith, omega arith, nearest-more _ _ (h .2) (h .0) (omega arith) (c .before .stamp-at2 .ensures) (c .nearer .ensures))
 
--- src/lib.rt:327:1
 returns : tie.Need-returns Inv-loop μ-loop
-returns c = ?
+returns c = let h = c .before .loop .inv in nearest-all _ (h .2) (h .1) (c .loop-test .left)
 
 pub nearest-of-spec : {M : Type 1} → statement M
 nearest-of-spec =

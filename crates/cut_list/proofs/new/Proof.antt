@@ -1,11 +1,12 @@
+-- `cut_list::new` meets its contract. Assumes nothing.
+use mathlib.Core.Path.{refl}
+use Rattle.cut_list.specs.Record.{newList}
 use Rattle.cut_list.proofs.new.Statement.{statement}
 use Rattle.cut_list.proofs.new.Tie as tie
-use Rattle.cut_list.proofs.new.Reads as reads
-use Rattle.cut_list.proofs.new.Lts as lts
 
--- src/lib.rt:56:1
 returns : tie.Need-returns
-returns c = ?
+unfolding newList
+returns c = refl
 
 pub new-spec : {M : Type 1} → statement M
 new-spec = tie.close (tie.spec returns)

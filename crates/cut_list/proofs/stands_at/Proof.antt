@@ -1,26 +1,20 @@
+-- `cut_list::stands_at` meets its contract. Assumes nothing.
 use borrow.Author.Needs.{needs}
+use borrow.Author.Tests.{lt-ltb, le-ltb}
 use Rattle.cut_list.proofs.stands_at.Statement.{statement}
 use Rattle.cut_list.proofs.stands_at.Tie as tie
-use Rattle.cut_list.proofs.stands_at.Reads as reads
-use Rattle.cut_list.proofs.stands_at.Lts as lts
-use Rattle.cut_list.proofs.stamp_at.Reads as stamp-at-reads
-use Rattle.timestamp.proofs.distance.Reads as distance-reads
 
--- src/lib.rt:244:13
 stamp-at-requires : tie.Need-stamp-at-requires
 stamp-at-requires c κs = search needs
 
--- src/lib.rt:245:16
 distance-requires : tie.Need-distance-requires
 distance-requires c κs = search needs
 
--- src/lib.rt:245:9
 returns : tie.Need-returns
-returns c = ?
+returns c = rw (lt-ltb _ _ (c .before .before .if1 .taken), c .distance .ensures, c .before .stamp-at .ensures)
 
--- src/lib.rt:239:1
 returns-2 : tie.Need-returns-2
-returns-2 c = ?
+returns-2 c = rw (le-ltb _ _ (c .if1 .left))
 
 pub stands-at-spec : {M : Type 1} → statement M
 stands-at-spec = tie.close (tie.spec stamp-at-requires distance-requires returns returns-2)
