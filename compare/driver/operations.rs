@@ -29,13 +29,14 @@ pub const MINIMA: [u64; 16] = [
 /// The ends of 64 bits and the middle.
 const ENDS: [u64; 8] = [0, 1, (1 << 63) - 1, 1 << 63, (1 << 63) + 1, u64::MAX - 2, u64::MAX - 1, u64::MAX];
 
-/// A stamp by a number of 64 bits, in order, and back.
-pub fn stamp(number: u64) -> i64 {
-    number.wrapping_sub(1 << 63) as i64
+/// The stamp n - 2^63: numbers of 64 bits are stamps in their order.
+fn stamp(n: u64) -> i64 {
+    n.wrapping_sub(1 << 63) as i64
 }
 
-pub fn number(stamp: i64) -> u64 {
-    (stamp as u64).wrapping_add(1 << 63)
+/// The number that `stamp` takes to ts.
+pub fn raised(ts: i64) -> u64 {
+    (ts as u64).wrapping_add(1 << 63)
 }
 
 /// Eight bytes, least first.
@@ -71,7 +72,7 @@ fn step(r: &[u8], minimum: u64) -> u64 {
 }
 
 /// The list that a start describes.
-pub fn start(r: &[u8]) -> Held {
+fn start(r: &[u8]) -> Held {
     let minimum = MINIMA[r[0] as usize % 16];
     let (count, step) = (count(r), step(r, minimum));
     let first = match r[3] % 8 {
@@ -84,7 +85,7 @@ pub fn start(r: &[u8]) -> Held {
 }
 
 /// Whether the operations of a list are mostly additions, of stamps far apart.
-pub fn fills(start: &[u8]) -> bool {
+fn fills(start: &[u8]) -> bool {
     start[14] % 4 == 0
 }
 
@@ -120,7 +121,7 @@ fn aimed(q: &[u8], fills: bool, held: &Held) -> i64 {
         return stamp(wide(&q[4..]));
     }
     stamp(match q[0] % 16 {
-        0..=9 => moved(number(held.places[place(q[1], q[2])]), held.min_duration(), q[3], q[4]),
+        0..=9 => moved(raised(held.places[place(q[1], q[2])]), held.min_duration(), q[3], q[4]),
         10 | 11 => ENDS[q[1] as usize % 8],
         12 | 13 => (1 << 63) - 2048 + 16 * q[1] as u64 + q[2] as u64 % 16,
         _ => wide(&q[4..]),
@@ -164,7 +165,7 @@ fn given(r: &[u8], held: &Held) -> Held {
         5 => given.set_count(held.count().wrapping_add(1)),
         6 => {
             let place = faulty_place(r);
-            given.places[place] = stamp(broken(number(held.places[place - 1]), held.min_duration(), r[4], r[5]));
+            given.places[place] = stamp(broken(raised(held.places[place - 1]), held.min_duration(), r[4], r[5]));
         }
         _ => (),
     }

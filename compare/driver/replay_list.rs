@@ -26,21 +26,19 @@ fn one(digest: &mut Digest, given: &Held, lent: usize, operation: Operation) -> 
     digest.word(number);
     // a refused reader answers none, 0 and 0, or 0
     let answer = if number == 0 { after.answer() } else { &[0, 0] };
-    let mut long = |number: u64| digest.bytes(&number.to_le_bytes());
     match operation {
         Operation::Nearest(_) => {
             digest.bytes(&[answer[0] as u8]);
             if answer[0] == 1 {
-                digest.bytes(&operations::number(answer[1] as i64).to_le_bytes());
+                digest.long(operations::raised(answer[1] as i64));
             }
         }
-        Operation::Span(..) => answer.iter().for_each(|&word| long(word)),
-        Operation::Clip(_) => long(answer[0]),
+        Operation::Span(..) => answer.iter().for_each(|&word| digest.long(word)),
+        Operation::Clip(_) => digest.long(answer[0]),
         _ => (),
     }
-    let mut long = |number: u64| digest.bytes(&number.to_le_bytes());
-    long(after.min_duration());
-    long(after.count());
-    after.places[..MEMORY].iter().for_each(|&place| long(operations::number(place)));
+    digest.long(after.min_duration());
+    digest.long(after.count());
+    after.places[..MEMORY].iter().for_each(|&ts| digest.long(operations::raised(ts)));
     (number, after)
 }

@@ -14,8 +14,8 @@ abbrev μ-loop : tie.MeasureT-loop
 loop-holds : tie.Need-loop-holds Inv-loop μ-loop
 loop-holds c = search needs
 
-number-at-requires : tie.Need-number-at-requires Inv-loop μ-loop
-number-at-requires c κs = search needs
+raised-at-requires : tie.Need-raised-at-requires Inv-loop μ-loop
+raised-at-requires c κs = search needs
 
 long-requires : tie.Need-long-requires Inv-loop μ-loop
 long-requires c κs = search needs
@@ -39,7 +39,7 @@ feed-places-spec =
     Inv-loop
     μ-loop
     loop-holds
-    number-at-requires
+    raised-at-requires
     long-requires
     add-i
     loop-less

@@ -1,10 +1,10 @@
--- `fill` is safe and ends: each place once.
+-- `starts::fill` is safe and ends: each place once.
 use mathlib.Core.Path.{_≡_}
 use Prim.Native.Nat.{_≤_, _-_}
 use lib.ListN.{length}
 use borrow.Author.Needs.{needs}
-use Rattle.replay_list.proofs.fill.Statement.{statement}
-use Rattle.replay_list.proofs.fill.Tie as tie
+use Rattle.replay_list.proofs.starts.fill.Statement.{statement}
+use Rattle.replay_list.proofs.starts.fill.Tie as tie
 
 abbrev Inv-loop : tie.InvT-loop
 Inv-loop memory₀ first step n₀ i₀ memory n i = (i ≤ length memory₀) × (length memory ≡ length memory₀)

@@ -1,8 +1,8 @@
--- `back` ends.
+-- `starts::back` ends.
 use Prim.Native.Nat.{_<_, _-_}
 use borrow.Author.Needs.{needs}
-use Rattle.replay_list.proofs.back.Statement.{statement}
-use Rattle.replay_list.proofs.back.Tie as tie
+use Rattle.replay_list.proofs.starts.back.Statement.{statement}
+use Rattle.replay_list.proofs.starts.back.Tie as tie
 
 abbrev Inv-loop : tie.InvT-loop
 Inv-loop step n first₀ i₀ first i = 0 < i

@@ -1,8 +1,8 @@
--- `wide` is safe and ends: eight bytes of the record.
+-- `numbers::wide` is safe and ends: eight bytes of the record.
 use Prim.Native.Nat.{_≤_, _-_}
 use borrow.Author.Needs.{needs}
-use Rattle.replay_list.proofs.wide.Statement.{statement}
-use Rattle.replay_list.proofs.wide.Tie as tie
+use Rattle.replay_list.proofs.numbers.wide.Statement.{statement}
+use Rattle.replay_list.proofs.numbers.wide.Tie as tie
 
 abbrev Inv-loop : tie.InvT-loop
 Inv-loop r at n₀ i₀ n i = i ≤ 8
