@@ -1,6 +1,6 @@
 -- What the test `inner` says, and the two planes by it.
 use mathlib.Core.Path.{_≡_, refl, ap, _∙_}
-use mathlib.Core.Bool.{Bool, true, false, cond, _&&_}
+use mathlib.Core.Bool.{Bool, true, false, _&&_}
 use mathlib.Core.List.{List}
 use Prim.Native.Nat.{ℕ, _+_, _*_, _<_, _≤_}
 use native.Mathlib.Omega.{arith}
@@ -9,15 +9,11 @@ use lib.IntN.{ℤ, pos, natAbs}
 use lib.ListN.{length}
 use borrow.Author.Tests.{ltb-true, lt-ltb, le-ltb}
 use Rattle.laws.specs.Lists.{tabulate}
+use Rattle.laws.proofs.Bools.{and-true}
 use Rattle.laws.proofs.Grid.{row-end}
 use Rattle.laws.proofs.Tab.{length-tabulate, getD-tabulate, is-tabulate}
 use Rattle.arch_sobel.specs.Inner.{Inner}
 use Rattle.arch_sobel.specs.Sobel.{inner, gradX, gradY, dirOf, magAt, dirAt}
-
-both : (a b : Bool) → (a && b) ≡ true → (a ≡ true) × (b ≡ true)
-both true true e = (refl, refl)
-both true false e = (refl, e)
-both false b e = (e, absurd (let z : _≡_ {A = ℕ} 0 1 = ap (λ (t : Bool). cond t 1 0) e in omega arith))
 
 -- a neighbour on every side, and the last of them within the plane
 pub record Within (w h x y n : ℕ) : Type 0 where
@@ -30,9 +26,9 @@ pub record Within (w h x y n : ℕ) : Type 0 where
 pub within : (w h x y n : ℕ) → inner w h x y ≡ true → n ≡ w * h → Within w h x y n
 unfolding inner
 within w h x y n e l =
-    let p = both (ltb 0 x && ltb (x + 1) w) (ltb 0 y && ltb (y + 1) h) e in
-    let q = both (ltb 0 x) (ltb (x + 1) w) (p .0) in
-    let r = both (ltb 0 y) (ltb (y + 1) h) (p .1) in
+    let p = and-true (ltb 0 x && ltb (x + 1) w) (ltb 0 y && ltb (y + 1) h) e in
+    let q = and-true (ltb 0 x) (ltb (x + 1) w) (p .0) in
+    let r = and-true (ltb 0 y) (ltb (y + 1) h) (p .1) in
     let right : x + 1 < w = ltb-true _ _ (q .1) in
     let bottom : y + 1 < h = ltb-true _ _ (r .1) in
     record {

@@ -14,7 +14,7 @@ use lib.Signed.{ltZ}
 use Rattle.laws.specs.Lists.{leaveOut}
 use Rattle.laws.proofs.Bools.{or-false}
 use Rattle.cut_list.specs.declared.CutList.{CutList}
-use Rattle.cut_list.specs.Record.{places, held, cutList, follows, inOrder, isBad}
+use Rattle.cut_list.specs.Record.{places, Held, held, cutList, stampsOf, follows, inOrder, isBad}
 use Rattle.cut_list.specs.Change.{turned, same, tooClose, anyOf, inserted, addNumber, withStamp, added, removeNumber, withoutStamp, removed, listNumber, withoutStamps, emptied}
 use Rattle.timestamp.specs.declared.Timestamp.{Timestamp}
 use Rattle.timestamp.specs.declared.MaybeTimestamp.the-variants.{None, At}
@@ -24,20 +24,20 @@ use Rattle.cut_list.proofs.Walks.{howMany-le}
 use Rattle.cut_list.proofs.Spans.{span-some, span-none}
 
 -- a list that is not bad
-pub record Sound (l : CutList) (m : List ℤ) : Type 0 where
-  pub few : l .count ≤ 512
-  pub room : 512 ≤ length m
-  pub ordered : inOrder (l .«min_duration») (take (l .count) m) ≡ true
+pub record Sound (h : Held) : Type 0 where
+  pub few : h .list .count ≤ places
+  pub room : places ≤ length (h .memory)
+  pub ordered : inOrder (h .list .«min_duration») (stampsOf h) ≡ true
 
-pub sound : (l : CutList) (m : List ℤ) → isBad (held l m) ≡ false → Sound l m
+pub sound : (h : Held) → isBad h ≡ false → Sound h
 unfolding isBad
-sound l m e =
-    let p = or-false (ltb places (l .count) || ltb (length m) places) (not (inOrder (l .«min_duration») (take (l .count) m))) e in
-    let q = or-false (ltb places (l .count)) (ltb (length m) places) (p .0) in
+sound h e =
+    let p = or-false (ltb places (h .list .count) || ltb (length (h .memory)) places) (not (inOrder (h .list .«min_duration») (stampsOf h))) e in
+    let q = or-false (ltb places (h .list .count)) (ltb (length (h .memory)) places) (p .0) in
     record {
-      few = ltb-false places (l .count) (q .0);
-      room = ltb-false (length m) places (q .1);
-      ordered = not-false (inOrder (l .«min_duration») (take (l .count) m)) (p .1);
+      few = ltb-false places (h .list .count) (q .0);
+      room = ltb-false (length (h .memory)) places (q .1);
+      ordered = not-false (inOrder (h .list .«min_duration») (stampsOf h)) (p .1);
     }
 
 drop-take : (p n : ℕ) (m : List ℤ) → p ≤ n → n ≤ length m → drop p (take n m) ≡ take (n - p) (drop p m)
@@ -98,7 +98,7 @@ module _ (l : CutList) (m : List ℤ) (a b : ℤ) (p q : ℕ) (good : isBad (hel
   pub span-done : p < q → record { number = 0; first = p; count = q - p } ≡ spanIn (held l m) a b
   unfolding spanIn listNumber
   span-done h =
-      let w = span-some (l .«min_duration») a b (take (l .count) m) (sound l m good .ordered) (omega (arith, as-p, as-q)) in
+      let w = span-some (l .«min_duration») a b (take (l .count) m) (sound (held l m) good .ordered) (omega (arith, as-p, as-q)) in
       rw (good, as-p, as-q, w .start, w .number)
 
   pub span-empty : q ≤ p → record { number = 0; first = 0; count = 0 } ≡ spanIn (held l m) a b
@@ -119,8 +119,8 @@ module _ (l : CutList) (m : List ℤ) (t : ℤ) (good : isBad (held l m) ≡ fal
   abbrev pub place : ℕ
   place = before t xs
 
-  is-sound : Sound l m
-  is-sound = sound l m good
+  is-sound : Sound (held l m)
+  is-sound = sound (held l m) good
 
   size : length xs ≡ l .count
   size = length-take-le (l .count) m (omega (arith, is-sound .few, is-sound .room))

@@ -1,7 +1,7 @@
 -- What holds of stamps in order. Most laws speak of a stamp t and of p, how many of the stamps are before t: p is then the place where t stands,
 -- or would stand.
 use Prim.Native.Nat.{ℕ, zero, suc, _+_, _≤_, _<_}
-use native.Mathlib.Nat.{suc-add, le-of-suc-le-suc, not-suc-le-zero}
+use native.Mathlib.Nat.{suc-add, not-suc-le-zero}
 use native.Mathlib.Omega.{arith}
 use mathlib.Core.Path.{_≡_, refl, sym}
 use mathlib.Core.Bool.{Bool, true, false, cond, not, _&&_, _||_, true≢false}
@@ -12,6 +12,7 @@ use lib.IntN.{ℤ, pos}
 use lib.ListN.{length, getD, take, drop}
 use lib.Signed.{ltZ}
 use Rattle.laws.specs.Lists.{All, leaveOut}
+use Rattle.laws.proofs.All.{all-map, all-at, leaveOut-none}
 use Rattle.laws.proofs.Bools.{and-true, or-false}
 use Rattle.laws.proofs.Whole.{whole, lt-ltZ, le-ltZ}
 use Rattle.timestamp.specs.Stamps.{distance}
@@ -32,9 +33,8 @@ unfolding inOrder
 tail-ordered d x [] e = refl
 tail-ordered d x (y ∷ ys) e = and-true (follows d x y) (inOrder d (y ∷ ys)) e .1
 
-all-past : {d : ℕ} {x y : ℤ} (ys : List ℤ) → Past d x y → All (Past d y) ys → All (Past d x) ys
-all-past [] p h = tt
-all-past (z ∷ zs) p h = (past-trans p (h .0), all-past zs p (h .1))
+pub all-past : {d : ℕ} {x y : ℤ} (ys : List ℤ) → Past d x y → All (Past d y) ys → All (Past d x) ys
+all-past ys p h = all-map (λ z q. past-trans p q) ys h
 
 -- every stamp may follow each one before it, and not its neighbour alone
 pub rest-past : (d : ℕ) (x : ℤ) (xs : List ℤ) → inOrder d (x ∷ xs) ≡ true → All (Past d x) xs
@@ -52,14 +52,10 @@ unfolding howMany
 none-have p [] h = refl
 none-have p (x ∷ xs) h = rw (h .0, none-have p xs (h .1))
 
-anyOf-none : (p : ℤ → Bool) (xs : List ℤ) → All (λ (x : ℤ). p x ≡ false) xs → anyOf p xs ≡ false
+pub anyOf-none : (p : ℤ → Bool) (xs : List ℤ) → All (λ (x : ℤ). p x ≡ false) xs → anyOf p xs ≡ false
 unfolding anyOf
 anyOf-none p [] h = refl
 anyOf-none p (x ∷ xs) h = rw (h .0, anyOf-none p xs (h .1))
-
-pub all-map : {P Q : ℤ → Type 0} (f : (x : ℤ) → P x → Q x) (xs : List ℤ) → All P xs → All Q xs
-all-map f [] h = tt
-all-map f (x ∷ xs) h = (f x (h .0), all-map f xs (h .1))
 
 -- a first stamp that is not before t: none is
 module _ (d : ℕ) (t x : ℤ) (xs : List ℤ) (ordered : inOrder d (x ∷ xs) ≡ true) (h : ltZ x t ≡ false) where
@@ -86,11 +82,6 @@ earlierOk d t xs (suc q) = follows d (getD xs q (pos 0)) t
 abbrev pub laterOk : ℕ → ℤ → List ℤ → ℕ → Bool
 laterOk d t xs p = cond (ltb p (length xs)) (follows d t (getD xs p (pos 0))) true
 
-pub all-at : (P : ℤ → Type 0) (xs : List ℤ) (i : ℕ) → i < length xs → All P xs → P (getD xs i (pos 0))
-all-at P [] i b h = absurd (not-suc-le-zero b)
-all-at P (x ∷ xs) zero b h = h .0
-all-at P (x ∷ xs) (suc i) b h = all-at P xs i (le-of-suc-le-suc b) (h .1)
-
 not-both : (a b : Bool) → (not a || not b) ≡ not (a && b)
 not-both true b = refl
 not-both false b = refl
@@ -113,7 +104,7 @@ with-earlier d t x xs o h zero le ih = rw (close-before d t x h, ih, later-same 
 with-earlier d t x xs o h (suc q) le ih =
     rw (close-before d t x h, ih, later-same d t x xs (suc q))
     (implied (follows d x t) (follows d (getD xs q (pos 0)) t) (laterOk d t xs (suc q))
-    (λ e. follows-make d x t (past-trans (all-at (Past d x) xs q le (rest-past d x xs o)) (follows-read d (getD xs q (pos 0)) t e))))
+    (λ e. follows-make d x t (past-trans (all-at (Past d x) (pos 0) xs q le (rest-past d x xs o)) (follows-read d (getD xs q (pos 0)) t e))))
 
 -- a first stamp that is not before t
 with-later : (d : ℕ) (t x : ℤ) (xs : List ℤ) → inOrder d (x ∷ xs) ≡ true → ltZ x t ≡ false → (f : Bool) → follows d t x ≡ f
@@ -175,10 +166,6 @@ stands d t (x ∷ xs) o = by (ltZ x t) refl (stands d t xs (tail-ordered d x xs 
     by true h ih = rw (one-before t x xs h, before-other t x h, leb·suc-suc (suc (before t xs)) (length xs), ih)
     by false h ih = rw (none-before d t x xs o h, lt-ltb 0 (suc (length xs)) (omega arith)) (at-first h (same t x) refl)
 
-leaveOut-none : (p : ℤ → Bool) (xs : List ℤ) → All (λ (x : ℤ). p x ≡ false) xs → leaveOut p xs ≡ xs
-leaveOut-none p [] h = refl
-leaveOut-none p (x ∷ xs) h = rw (h .0, leaveOut-none p xs (h .1))
-
 -- and what is left without it
 pub left-at : (d : ℕ) (t : ℤ) (xs : List ℤ) → inOrder d xs ≡ true → before t xs < length xs → same t (getD xs (before t xs) (pos 0)) ≡ true
     → leaveOut (same t) xs ≡ take (before t xs) xs ++ drop (before t xs + 1) xs
@@ -198,4 +185,4 @@ left-at d t (x ∷ xs) o lt s = by (ltZ x t) refl (left-at d t xs (tail-ordered 
     by false h ih lt s =
         let u : same t x ≡ true = rw (none-before d t x xs o h) at s in
         rw (none-before d t x xs o h, u)
-        (leaveOut-none (same t) xs (all-map (λ y p. let l = p .later in let g = same-read t x u in past-other t y (omega arith)) xs (rest-past d x xs o)))
+        (leaveOut-none (same t) xs (all-map (λ y p. let l = p .later in let g = same-read t x u in past-other t y (omega whole)) xs (rest-past d x xs o)))

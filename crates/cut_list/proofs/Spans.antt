@@ -8,11 +8,12 @@ use borrow.Author.Tests.{ne-eqb, eq-eqb}
 use lib.IntN.{ℤ}
 use lib.Signed.{leZ, ltZ}
 use Rattle.laws.specs.Lists.{All}
+use Rattle.laws.proofs.All.{all-map}
 use Rattle.laws.proofs.Bools.{and-right-false}
 use Rattle.laws.proofs.Whole.{whole, le-leZ, lt-leZ, lt-ltZ}
 use Rattle.cut_list.specs.Record.{inOrder}
 use Rattle.cut_list.specs.Find.{within, howMany, firstPlace, spanStart, clipOf}
-use Rattle.cut_list.proofs.Order.{before, tail-ordered, rest-past, all-map, none-have, none-before, one-before}
+use Rattle.cut_list.proofs.Order.{before, tail-ordered, rest-past, none-have, none-before, one-before}
 
 -- one stamp's part in the three counts, for a span whose ends are in order
 one : (a b x : ℤ) → leZ a b ≡ true → cond (ltZ x a) 1 0 + cond (within a b x) 1 0 ≡ cond (leZ x b) 1 0

@@ -8,7 +8,7 @@ use lib.Dec.{ltb}
 use lib.IntN.{ℤ, pos, _+ℤ_}
 use lib.Signed.{leZ, ltZ}
 use Rattle.laws.proofs.Bools.{and-true}
-use Rattle.laws.proofs.Whole.{whole, up, dn, sum-read, abs-down, abs-up, lt-ltZ}
+use Rattle.laws.proofs.Whole.{whole, up, dn, eq-make, sum-read, abs-down, abs-up, lt-ltZ}
 use Rattle.timestamp.specs.Stamps.{distance}
 use Rattle.cut_list.specs.Record.{follows}
 use Rattle.cut_list.specs.Change.{same, tooClose}
@@ -110,10 +110,10 @@ other-past t x h k =
 pub past-other : (t x : ℤ) → up t + dn x < up x + dn t → same t x ≡ false
 past-other t x h = ne-eqb (distance t x) 0 (λ z. absurd (omega (arith, gap-up t x (omega arith))))
 
--- equal stamps
-pub same-read : (t x : ℤ) → same t x ≡ true → up t + dn x ≡ up x + dn t
+-- the same are equal
+pub same-read : (t x : ℤ) → same t x ≡ true → t ≡ x
 same-read t x e = by (ltZ x t) refl
   where
-    by : (b : Bool) → ltZ x t ≡ b → up t + dn x ≡ up x + dn t
+    by : (b : Bool) → ltZ x t ≡ b → t ≡ x
     by true h = absurd (true≢false (sym e ∙ before-other t x h))
-    by false h = omega (whole, gap-up t x (omega whole), eqb-true (distance t x) 0 e)
+    by false h = eq-make {a = t} {b = x} (omega (whole, gap-up t x (omega whole), eqb-true (distance t x) 0 e))

@@ -133,7 +133,8 @@ nearestFrom-more t best (y ∷ ys) x = nearestFrom-more t (nearerOf t best y) ys
 abbrev at : ℤ → MaybeTimestamp
 at z = At (record { micros = z })
 
-abbrev stampOf : MaybeTimestamp → ℤ
+-- the stamp, or 0 where there is none
+abbrev pub stampOf : MaybeTimestamp → ℤ
 stampOf None = pos 0
 stampOf (At r) = r .micros
 

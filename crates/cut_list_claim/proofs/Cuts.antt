@@ -10,6 +10,7 @@ use lib.IntN.{ℤ, pos, _+ℤ_}
 use lib.ListN.{length, replicate}
 use lib.Signed.{_≤ℤ_}
 use Rattle.laws.specs.Lists.{All}
+use Rattle.laws.proofs.All.{all-map}
 use Rattle.laws.proofs.Whole.{sum-read, le-read}
 use Rattle.timestamp.specs.declared.MaybeTimestamp.{MaybeTimestamp}
 use Rattle.filter.specs.declared.FilterMode.{FilterMode}
@@ -24,23 +25,26 @@ use Rattle.content_claim.specs.Claim.{contentRun, withCut}
 use Rattle.content_claim.proofs.Theorem.{content-claim}
 use Rattle.cut_list.specs.Record.{places, Held, held, newList, stampsOf}
 use Rattle.cut_list.specs.Change.{tooClose, withStamp}
+use Rattle.cut_list.proofs.Tests.{Past}
+use Rattle.cut_list.proofs.Order.{anyOf-none, all-past}
+use Rattle.cut_list.proofs.Brought.{Sound}
 use Rattle.cut_list_claim.specs.Run.{add, Operated, listRun}
 use Rattle.cut_list_claim.specs.Claim.{FitsList}
-use Rattle.cut_list_claim.proofs.Order.{Follows, Sorted, followed, all-map, any-false, follows-clear, insert-all}
-use Rattle.cut_list_claim.proofs.Steps.{NotBad, bad-not, isClose, add-rows, add-leaves}
-use Rattle.cut_list_claim.proofs.Theorem.{new-not-bad}
+use Rattle.cut_list_claim.proofs.Order.{Sorted, past-clear, insert-all}
+use Rattle.cut_list_claim.proofs.Steps.{bad-not, isClose, add-rows, add-leaves}
+use Rattle.cut_list_claim.proofs.Theorem.{new-sound}
 
 -- ---- stamps that keep a distance of at least 1 are in order
 
 keeps-sorted : (d : ℕ) → 1 ≤ d → (ts : List ℤ) → KeepsDistance d ts → Sorted d ts
 keeps-sorted d one [] k = tt
 keeps-sorted d one (x ∷ []) k = (tt, tt)
-keeps-sorted d one (x ∷ y ∷ ys) k = let s = keeps-sorted d one (y ∷ ys) (k .1) in (followed d x y ys (follow (k .0)) (s .0), s)
+keeps-sorted d one (x ∷ y ∷ ys) k = let s = keeps-sorted d one (y ∷ ys) (k .1) in let p = follow (k .0) in ((p, all-past ys p (s .0)), s)
   where
-    follow : (x +ℤ pos d) ≤ℤ y → Follows d x y
+    follow : (x +ℤ pos d) ≤ℤ y → Past d x y
     follow h =
         let far = le-read {a = x +ℤ pos d} {b = y} h in
-        record { later = omega (arith, sum-read x (pos d)); past = omega (arith, sum-read x (pos d)) }
+        record { later = omega (arith, sum-read x (pos d)); far = omega (arith, sum-read x (pos d)) }
 
 -- ---- stamps added one after another
 
@@ -63,20 +67,20 @@ fitting-more room n = rw (suc-min-suc room n, suc-sub-suc n room)
 
 -- a list of minimum d with room for that many, whose stamps are followed by all of ts
 record Open (d room : ℕ) (ts : List ℤ) (h : Held) : Type 0 where
-  not-bad : NotBad h
+  sound : Sound h
   minimum : h .list .«min_duration» ≡ d
   room-is : h .list .count + room ≡ places
-  followed-by : All (λ (x : ℤ). All (Follows d x) ts) (stampsOf h)
+  followed-by : All (λ (x : ℤ). All (Past d x) ts) (stampsOf h)
 
-module _ (d : ℕ) (t : ℤ) (ts : List ℤ) (later : All (Follows d t) ts) (room : ℕ) (h : Held) (o : Open d room (t ∷ ts) h) where
+module _ (d : ℕ) (t : ℤ) (ts : List ℤ) (later : All (Past d t) ts) (room : ℕ) (h : Held) (o : Open d room (t ∷ ts) h) where
   not-close : isClose h t ≡ false
-  not-close = rw (o .minimum) (any-false (tooClose d t) (stampsOf h) (all-map (λ x a. follows-clear d t x (a .0)) (stampsOf h) (o .followed-by)))
+  not-close = rw (o .minimum) (anyOf-none (tooClose d t) (stampsOf h) (all-map (λ x a. past-clear d t x (a .0)) (stampsOf h) (o .followed-by)))
 
   -- the list is full, and stays as it was
   still-open : Open d room ts h
   still-open =
       record {
-        not-bad = o .not-bad;
+        sound = o .sound;
         minimum = o .minimum;
         room-is = o .room-is;
         followed-by = all-map (λ x a. a .1) (stampsOf h) (o .followed-by);
@@ -86,12 +90,12 @@ module _ (d : ℕ) (t : ℤ) (ts : List ℤ) (later : All (Follows d t) ts) (roo
   more-open : (h .list .count ≡ places → ⊥) → Open d (room - 1) ts (withStamp h t)
   unfolding withStamp
   more-open free =
-      let l = add-leaves h (o .not-bad) t not-close free in
+      let l = add-leaves h (o .sound) t not-close free in
       record {
-        not-bad = l .not-bad;
+        sound = l .sound;
         minimum = o .minimum;
         room-is = omega (arith, o .room-is);
-        followed-by = rw (l .stamps-are) (insert-all t (λ x. All (Follows d x) ts) (stampsOf h) later (still-open .followed-by));
+        followed-by = rw (l .stamps-are) (insert-all t (λ x. All (Past d x) ts) (stampsOf h) later (still-open .followed-by));
       }
 
   module _ (ih : (k : ℕ) (next : Held) → Open d k ts next → numbers next ts ≡ fitting k (length ts)) where
@@ -109,7 +113,7 @@ module _ (d : ℕ) (t : ℤ) (ts : List ℤ) (later : All (Follows d t) ts) (roo
     add-one : numbers h (t ∷ ts) ≡ fitting room (suc (length ts))
     add-one =
         add-rows h t (λ y. (y .number ∷ numbers (y .after) ts) ≡ fitting room (suc (length ts)))
-        (bad-not h (o .not-bad))
+        (bad-not h (o .sound))
         (λ _ e. absurd (true≢false (sym e ∙ not-close)))
         (λ _ _. if-full)
         (λ _ _. if-free)
@@ -122,7 +126,7 @@ pub keeps-fit : (d : ℕ) → 1 ≤ d → (memory : List ℤ) → places ≤ len
 unfolding newList
 keeps-fit d one memory long ts k =
     add-all d ts (keeps-sorted d one ts k) places (held (newList d) memory)
-    (record { not-bad = new-not-bad d memory long; minimum = refl; room-is = omega arith; followed-by = tt })
+    (record { sound = new-sound d memory long; minimum = refl; room-is = omega arith; followed-by = tt })
 
 -- ---- the cuts of a stretch
 

@@ -1,71 +1,67 @@
 -- The readers of a list that is not bad agree with each other (RULES 17.13). Assumes nothing else.
-use Prim.Native.Nat.{ℕ, _≤_}
+use Prim.Native.Nat.{ℕ, _≤_, _<_}
 use native.Mathlib.Omega.{arith}
-use mathlib.Core.Path.{_≡_, refl, sym, ap, subst}
-use mathlib.Core.Bool.{Bool, true, false, cond, _&&_, _||_}
+use native.Mathlib.Decide.{decLt}
+use mathlib.Core.Path.{_≡_, refl, sym, ap, _∙_, subst}
+use mathlib.Core.Bool.{Bool, true, false, cond, _||_}
 use mathlib.Core.List.{List, [], _∷_}
 use lib.Dec.{ltb}
 use lib.IntN.{ℤ}
-use lib.Signed.{leZ, _≤ℤ_, ≤ℤ-refl}
+use lib.Signed.{_≤ℤ_, ≤ℤ-refl}
 use borrow.Author.Tests.{ltb-true, ltb-false}
 use Rattle.laws.specs.Lists.{All}
-use Rattle.laws.proofs.Whole.{le-read, le-make, le-leZ}
+use Rattle.laws.proofs.Bools.{or-right-true}
+use Rattle.laws.proofs.Whole.{le-read, le-make, le-ltZ}
 use Rattle.timestamp.specs.declared.Timestamp.{Timestamp}
 use Rattle.timestamp.specs.declared.MaybeTimestamp.{MaybeTimestamp}
 use Rattle.timestamp.specs.declared.MaybeTimestamp.the-variants.{None, At}
 use Rattle.timestamp.specs.Stamps.{distance}
-use Rattle.cut_list.specs.Record.{Held, stampsOf, isBad}
+use Rattle.cut_list.specs.Record.{Held, stampsOf, inOrder, isBad}
 use Rattle.cut_list.specs.Change.{same, anyOf}
-use Rattle.cut_list.specs.Find.{nearestFrom, nearestOf, nearestIn, within, howMany, spanIn, clipOf, clipIn}
+use Rattle.cut_list.specs.Find.{nearestFrom, nearestOf, nearestIn, spanIn, clipOf, clipIn}
+use Rattle.cut_list.proofs.Tests.{Past}
+use Rattle.cut_list.proofs.Walks.{nearerOf, stampOf}
+use Rattle.cut_list.proofs.Order.{before, none-before}
+use Rattle.cut_list.proofs.Spans.{Within, span-some, span-none}
+use Rattle.cut_list.proofs.Brought.{sound}
 use Rattle.cut_list_claim.specs.Claim.{ReadersAgree}
-use Rattle.cut_list_claim.proofs.Order.{Follows, Sorted, all-map, same-refl}
-use Rattle.cut_list_claim.proofs.Steps.{not-bad-read}
+use Rattle.cut_list_claim.proofs.Order.{Sorted, same-refl}
+use Rattle.cut_list_claim.proofs.Steps.{sorted}
 
 -- ---- span and clip
 
-many-same : (p q : ℤ → Bool) (xs : List ℤ) → All (λ (x : ℤ). p x ≡ q x) xs → howMany p xs ≡ howMany q xs
-unfolding howMany
-many-same p q [] a = refl
-many-same p q (x ∷ xs) a = rw (a .0, many-same p q xs (a .1))
+-- the span from the first of ordered stamps to t starts at the first place, and has as many members as the clip of t
+from-first : (d : ℕ) (t x : ℤ) (xs : List ℤ) → inOrder d (x ∷ xs) ≡ true → Within x t (x ∷ xs) 0 (clipOf t (x ∷ xs))
+from-first d t x xs ordered = by (decLt 0 (clipOf t (x ∷ xs)))
+  where
+    none : before x (x ∷ xs) ≡ 0
+    none = none-before d x x xs ordered (le-ltZ x x (omega arith))
 
--- the stamps of an ordered list are all at or after its first
-from-first : (d : ℕ) (x : ℤ) (xs : List ℤ) → Sorted d (x ∷ xs) → All (λ (y : ℤ). leZ x y ≡ true) (x ∷ xs)
-from-first d x xs s = (le-leZ x x (omega arith), all-map (λ y f. le-leZ x y (omega (arith, f .later))) xs (s .0))
-
-span-first : (d : ℕ) (t x : ℤ) (xs : List ℤ) → Sorted d (x ∷ xs) → howMany (within x t) (x ∷ xs) ≡ clipOf t (x ∷ xs)
-unfolding clipOf
-span-first d t x xs s =
-    many-same (within x t) (λ (y : ℤ). leZ y t) (x ∷ xs) (all-map (λ y e. ap (λ (b : Bool). b && leZ y t) e) (x ∷ xs) (from-first d x xs s))
+    by : Dec (0 < clipOf t (x ∷ xs)) → Within x t (x ∷ xs) 0 (clipOf t (x ∷ xs))
+    by (yes some) =
+        let w = span-some d x t (x ∷ xs) ordered (omega (arith, none)) in
+        record { start = w .start ∙ none; number = omega (arith, w .number, none) }
+    by (no empty) =
+        let w = span-none x t (x ∷ xs) (omega (arith, empty)) in
+        record { start = w .start; number = omega (arith, w .number, empty) }
 
 -- ---- nearest
 
--- a stamp was found, and which it is; `s` where none was
+-- a stamp was found
 abbrev Found : MaybeTimestamp → Type 0
 Found None = ⊥
 Found (At s) = Unit {0}
 
-abbrev stampIn : Timestamp → MaybeTimestamp → ℤ
-stampIn s None = s .micros
-stampIn s (At u) = u .micros
-
-at-or-before : {d : ℕ} (n x y : ℤ) → n ≤ℤ x → Follows d x y → n ≤ℤ y
-at-or-before n x y h f = le-make {a = n} {b = y} (omega (arith, le-read {a = n} {b = x} h, f .later))
+at-or-before : {d : ℕ} (n x y : ℤ) → n ≤ℤ x → Past d x y → n ≤ℤ y
+at-or-before n x y h p = le-make {a = n} {b = y} (omega (arith, le-read {a = n} {b = x} h, p .later))
 
 module _ (t : ℤ) where
-  -- the nearer of two, the first on a tie
-  abbrev nearer : ℤ → ℤ → ℤ
-  nearer best x = cond (ltb (distance t x) (distance t best)) x best
-
   -- it is one of them
   from-is-in : (best : ℤ) (xs : List ℤ) → anyOf (same (nearestFrom t best xs)) (best ∷ xs) ≡ true
   unfolding nearestFrom anyOf
   from-is-in best [] = rw (same-refl best)
-  from-is-in best (x ∷ xs) = by (ltb (distance t x) (distance t best)) (from-is-in (nearer best x) xs)
+  from-is-in best (x ∷ xs) = by (ltb (distance t x) (distance t best)) (from-is-in (nearerOf t best x) xs)
     where
-      right : (a b : Bool) → b ≡ true → (a || b) ≡ true
-      right true b e = refl
-      right false b e = e
-
       skip : (a b c : Bool) → (a || c) ≡ true → (a || (b || c)) ≡ true
       skip true b c e = refl
       skip false true c e = refl
@@ -73,14 +69,14 @@ module _ (t : ℤ) where
 
       by : (b : Bool) → let n : ℤ = nearestFrom t (cond b x best) xs in (same n (cond b x best) || anyOf (same n) xs) ≡ true
           → (same n best || (same n x || anyOf (same n) xs)) ≡ true
-      by true ih = let n = nearestFrom t x xs in right (same n best) (same n x || anyOf (same n) xs) ih
+      by true ih = let n = nearestFrom t x xs in or-right-true (same n best) (same n x || anyOf (same n) xs) ih
       by false ih = let n = nearestFrom t best xs in skip (same n best) (same n x) (anyOf (same n) xs) ih
 
   -- none is closer
   from-is-least : (best : ℤ) (xs : List ℤ) → All (λ (x : ℤ). distance t (nearestFrom t best xs) ≤ distance t x) (best ∷ xs)
   unfolding nearestFrom
   from-is-least best [] = (omega arith, tt)
-  from-is-least best (x ∷ xs) = by (ltb (distance t x) (distance t best)) refl (from-is-least (nearer best x) xs)
+  from-is-least best (x ∷ xs) = by (ltb (distance t x) (distance t best)) refl (from-is-least (nearerOf t best x) xs)
     where
       by : (b : Bool) → ltb (distance t x) (distance t best) ≡ b
           → let n : ℤ = nearestFrom t (cond b x best) xs in All (λ (y : ℤ). distance t n ≤ distance t y) (cond b x best ∷ xs)
@@ -94,7 +90,7 @@ module _ (t : ℤ) where
   unfolding nearestFrom
   from-is-earliest d best [] s = ((λ _. ≤ℤ-refl best), tt)
   from-is-earliest d best (x ∷ xs) s =
-      by (ltb (distance t x) (distance t best)) refl (from-is-least (nearer best x) xs .0) (from-is-earliest d (nearer best x) xs)
+      by (ltb (distance t x) (distance t best)) refl (from-is-least (nearerOf t best x) xs .0) (from-is-earliest d (nearerOf t best x) xs)
     where
       by : (b : Bool) → ltb (distance t x) (distance t best) ≡ b
           → let n : ℤ = nearestFrom t (cond b x best) xs in distance t n ≤ distance t (cond b x best)
@@ -107,34 +103,46 @@ module _ (t : ℤ) where
           (rest .0, (λ tie. at-or-before (nearestFrom t best xs) best x (rest .0 (omega (arith, tie))) (s .0 .0), rest .1))
 
   -- what holds of the nearest of ordered stamps
-  record Nearest (xs : List ℤ) (n : ℤ) : Type 0 where
+  record IsNearest (xs : List ℤ) (n : ℤ) : Type 0 where
     is-in : anyOf (same n) xs ≡ true
     least : All (λ (x : ℤ). distance t n ≤ distance t x) xs
     earliest : All (λ (x : ℤ). distance t n ≡ distance t x → n ≤ℤ x) xs
 
-  nearest-is : (d : ℕ) (xs : List ℤ) (s : Timestamp) → Sorted d xs → nearestOf t xs ≡ At s → Nearest xs (s .micros)
+  nearest-is : (d : ℕ) (xs : List ℤ) (s : Timestamp) → Sorted d xs → nearestOf t xs ≡ At s → IsNearest xs (s .micros)
   unfolding nearestOf
   nearest-is d [] s o e = absurd (subst Found (sym e) tt)
   nearest-is d (x ∷ xs) s o e =
-      let n : nearestFrom t x xs ≡ s .micros = ap (stampIn s) e in
+      let n : nearestFrom t x xs ≡ s .micros = ap stampOf e in
       rw (← n) (record { is-in = from-is-in x xs; least = from-is-least x xs; earliest = from-is-earliest d x xs o })
 
 -- ---- the readers of a list that is not bad
 
 module _ (h : Held) (fine : isBad h ≡ false) (t : ℤ) where
+  span-from : (x : ℤ) (xs : List ℤ) → stampsOf h ≡ x ∷ xs → Within x t (stampsOf h) 0 (clipOf t (stampsOf h))
+  span-from x xs e = rw e (from-first (h .list .«min_duration») t x xs (rw e at (sound h fine .ordered)))
+
   span-is-clip : (x : ℤ) (xs : List ℤ) → stampsOf h ≡ x ∷ xs → spanIn h x t .count ≡ clipIn h t .clip
   unfolding spanIn clipIn
-  span-is-clip x xs e =
-      rw fine (rw e (span-first (h .list .«min_duration») t x xs (subst (Sorted (h .list .«min_duration»)) e (not-bad-read h fine .order))))
+  span-is-clip x xs e = rw fine (span-from x xs e .number)
 
-  nearest-found : (s : Timestamp) → nearestIn h t .nearest ≡ At s → Nearest t (stampsOf h) (s .micros)
+  span-starts : (x : ℤ) (xs : List ℤ) → stampsOf h ≡ x ∷ xs → spanIn h x t .first ≡ 0
+  unfolding spanIn
+  span-starts x xs e = rw fine (span-from x xs e .start)
+
+  nearest-is-there : (x : ℤ) (xs : List ℤ) → stampsOf h ≡ x ∷ xs → (s : Timestamp) × (nearestIn h t .nearest ≡ At s)
+  unfolding nearestIn nearestOf
+  nearest-is-there x xs e = (record { micros = nearestFrom t x xs }, rw (fine, e) refl)
+
+  nearest-found : (s : Timestamp) → nearestIn h t .nearest ≡ At s → IsNearest t (stampsOf h) (s .micros)
   unfolding nearestIn
-  nearest-found s e = nearest-is t (h .list .«min_duration») (stampsOf h) s (not-bad-read h fine .order) (rw fine at e)
+  nearest-found s e = nearest-is t (h .list .«min_duration») (stampsOf h) s (sorted h (sound h fine)) (rw fine at e)
 
 pub readers-agree : (h : Held) → isBad h ≡ false → (t : ℤ) → ReadersAgree h t
 readers-agree h fine t =
     record {
       span-is-clip = span-is-clip h fine t;
+      span-starts = span-starts h fine t;
+      nearest-is-there = nearest-is-there h fine t;
       nearest-is-in = λ s e. nearest-found h fine t s e .is-in;
       nearest-is-least = λ s e. nearest-found h fine t s e .least;
       earliest-on-tie = λ s e. nearest-found h fine t s e .earliest;

@@ -20,9 +20,10 @@ use Rattle.cut_list.specs.declared.ClipOfStamp.{ClipOfStamp}
 use Rattle.cut_list.specs.Record.{places, Held, held, stampsOf, inOrder, isBad}
 use Rattle.cut_list.specs.Change.{Turn, orRefused, same, anyOf, tooClose, addNumber, inserted, withStamp, added, removeNumber, withoutStamp, removed, listNumber, withoutStamps, emptied}
 use Rattle.cut_list.specs.Find.{nearestOf, nearestIn, spanStart, howMany, within, spanIn, clipOf, clipIn}
+use Rattle.cut_list.proofs.Brought.{sound}
 use Rattle.cut_list_claim.specs.Run.{Operation, add, remove, empty, nearest, span, clip, operated}
 use Rattle.cut_list_claim.specs.Claim.{RestUntouched}
-use Rattle.cut_list_claim.proofs.Steps.{leaving, not-bad-read, add-rows, add-leaves, remove-rows, remove-leaves, empty-rows, empty-leaves}
+use Rattle.cut_list_claim.proofs.Steps.{leaving, add-rows, add-leaves, remove-rows, remove-leaves, empty-rows, empty-leaves}
 
 -- the same choice, where the two tests agree and, failed, so do the two values
 pick-alike : {A : Type 0} (x y z : A) (a b : Bool) → a ≡ b → (b ≡ false → y ≡ z) → cond a x y ≡ cond b x z
@@ -70,7 +71,7 @@ module _ (l : CutList) (first : List ℤ) (len : length first ≡ places) (xs : 
           rw (long, le-ltb (length first) places (omega arith), stamps-alike (ltb-false places (l .count) q))
 
   few-of : isBad alone ≡ false → l .count ≤ places
-  few-of e = not-bad-read alone e .few
+  few-of e = sound alone e .few
 
   -- what is read of the stamps of a list that is not bad
   read-alike : {A : Type 0} (refused : A) (f : List ℤ → A)
@@ -148,12 +149,12 @@ module _ (l : CutList) (first : List ℤ) (len : length first ≡ places) (xs : 
 length-stays : (h : Held) (o : Operation) → length (operated h o .after .memory) ≡ length (h .memory)
 length-stays h (add t) =
     add-rows h t (λ y. length (y .after .memory) ≡ length (h .memory)) (λ _. refl) (λ _ _. refl) (λ _ _ _. refl)
-    (λ fine clear room. add-leaves h (not-bad-read h fine) t clear room .length-stays)
+    (λ fine clear room. add-leaves h (sound h fine) t clear room .length-stays)
 length-stays h (remove t) =
     remove-rows h t (λ y. length (y .after .memory) ≡ length (h .memory)) (λ _. refl) (λ _ _. refl)
-    (λ fine there. remove-leaves h (not-bad-read h fine) t there .length-stays)
+    (λ fine there. remove-leaves h (sound h fine) t there .length-stays)
 length-stays h empty =
-    empty-rows h (λ y. length (y .after .memory) ≡ length (h .memory)) (λ _. refl) (λ fine. empty-leaves h (not-bad-read h fine) .length-stays)
+    empty-rows h (λ y. length (y .after .memory) ≡ length (h .memory)) (λ _. refl) (λ fine. empty-leaves h (sound h fine) .length-stays)
 length-stays h (nearest t) = refl
 length-stays h (span a b) = refl
 length-stays h (clip t) = refl

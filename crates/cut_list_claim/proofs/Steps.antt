@@ -2,46 +2,32 @@
 use Prim.Native.Nat.{ℕ, _+_, _-_, _≤_}
 use native.Mathlib.Omega.{arith}
 use mathlib.Core.Path.{_≡_, refl, sym, ap, _∙_, subst}
-use mathlib.Core.Bool.{Bool, true, false, cond, not, _||_, true≢false}
+use mathlib.Core.Bool.{Bool, true, false, cond, not, true≢false}
 use mathlib.Core.List.{List, [], _∷_, _++_, append-assoc}
-use lib.Dec.{eqb, ltb}
+use lib.Dec.{eqb}
 use lib.IntN.{ℤ, pos}
 use lib.ListN.{length, take, drop, replicate, length-append, length-drop, length-replicate}
 use lib.Seq.{length-take-le, take-at, drop-append-add, drop-drop}
-use borrow.Author.Tests.{eqb-true, eqb-false, ltb-false, le-ltb, not-false}
+use borrow.Author.Tests.{eqb-true, eqb-false, le-ltb}
 use Rattle.laws.specs.Lists.{leaveOut}
 use Rattle.frame.specs.Refusal.{firstThat}
-use Rattle.cut_list.specs.Record.{places, Held, held, cutList, stampsOf, inOrder, isBad}
+use Rattle.cut_list.specs.Record.{places, Held, held, cutList, stampsOf, isBad}
 use Rattle.cut_list.specs.Change.{Turn, same, tooClose, anyOf, addNumber, inserted, withStamp, added, removeNumber, withoutStamp, removed, listNumber, withoutStamps, emptied}
-use Rattle.cut_list_claim.proofs.Order.{Sorted, or-false, in-order-read, in-order-make, insert-sorted, insert-length, leave-sorted, leave-length}
+use Rattle.cut_list.proofs.Brought.{Sound}
+use Rattle.cut_list_claim.proofs.Order.{Sorted, in-order-read, in-order-make, insert-sorted, insert-length, leave-sorted, leave-length}
 
 -- ---- a list that is not bad
 
-pub record NotBad (h : Held) : Type 0 where
-  pub few : h .list .count ≤ places
-  pub enough : places ≤ length (h .memory)
-  pub order : Sorted (h .list .«min_duration») (stampsOf h)
+pub sorted : (h : Held) → Sound h → Sorted (h .list .«min_duration») (stampsOf h)
+sorted h g = in-order-read (h .list .«min_duration») (stampsOf h) (g .ordered)
 
-pub not-bad-read : (h : Held) → isBad h ≡ false → NotBad h
+pub not-bad : (h : Held) → Sound h → isBad h ≡ false
 unfolding isBad
-not-bad-read h e =
-    let tests = or-false (ltb places (h .list .count) || ltb (length (h .memory)) places) (not (inOrder (h .list .«min_duration») (stampsOf h))) e in
-    let sizes = or-false (ltb places (h .list .count)) (ltb (length (h .memory)) places) (tests .0) in
-    record {
-      few = ltb-false places (h .list .count) (sizes .0);
-      enough = ltb-false (length (h .memory)) places (sizes .1);
-      order = in-order-read (h .list .«min_duration») (stampsOf h) (not-false (inOrder (h .list .«min_duration») (stampsOf h)) (tests .1));
-    }
-
-pub not-bad-make : (h : Held) → NotBad h → isBad h ≡ false
-unfolding isBad
-not-bad-make h g =
-    let ordered = in-order-make (h .list .«min_duration») (stampsOf h) (g .order) in
-    rw (le-ltb places (h .list .count) (g .few), le-ltb (length (h .memory)) places (g .enough), ordered)
+not-bad h g = rw (le-ltb places (h .list .count) (g .few), le-ltb (length (h .memory)) places (g .room), g .ordered)
 
 -- no operation refuses it by 15
-pub bad-not : {A : Type 0} (h : Held) → NotBad h → isBad h ≡ true → A
-bad-not h g e = absurd (true≢false (sym e ∙ not-bad-make h g))
+pub bad-not : {A : Type 0} (h : Held) → Sound h → isBad h ≡ true → A
+bad-not h g e = absurd (true≢false (sym e ∙ not-bad h g))
 
 -- ---- memory whose first m places are written
 
@@ -112,14 +98,14 @@ number-none h e = rw e
 -- what an accepted operation leaves: these stamps, the minimum, the places from 512 on
 pub record Left (h after : Held) (stamps : List ℤ) : Type 0 where
   pub stamps-are : stampsOf after ≡ stamps
-  pub not-bad : NotBad after
+  pub sound : Sound after
   pub minimum : after .list .«min_duration» ≡ h .list .«min_duration»
   pub length-stays : length (after .memory) ≡ length (h .memory)
   pub rest : drop places (after .memory) ≡ drop places (h .memory)
 
-module _ (h : Held) (g : NotBad h) where
+module _ (h : Held) (g : Sound h) where
   pub count-is : length (stampsOf h) ≡ h .list .count
-  count-is = length-take-le (h .list .count) (h .memory) (omega (arith, g .few, g .enough))
+  count-is = length-take-le (h .list .count) (h .memory) (omega (arith, g .few, g .room))
 
   -- stamps in order, then what else of the first m places is written, then the other places
   leaves : (n m : ℕ) (stamps wiped : List ℤ) → length stamps ≡ n → n + length wiped ≡ m → m ≤ places → Sorted (h .list .«min_duration») stamps
@@ -129,10 +115,10 @@ module _ (h : Held) (g : NotBad h) where
       let others = wiped ++ drop m (h .memory) in
       let joined = append-assoc stamps wiped (drop m (h .memory)) in
       let are : take n (stamps ++ others) ≡ stamps = take-at stamps others n len in
-      let long : length (stamps ++ others) ≡ length (h .memory) = rw (← joined) (put-length (stamps ++ wiped) (h .memory) m front (omega (arith, g .enough))) in
+      let long : length (stamps ++ others) ≡ length (h .memory) = rw (← joined) (put-length (stamps ++ wiped) (h .memory) m front (omega (arith, g .room))) in
       record {
         stamps-are = are;
-        not-bad = record { few = omega arith; enough = omega (arith, g .enough); order = rw are order };
+        sound = record { few = omega arith; room = omega (arith, g .room); ordered = rw are (in-order-make (h .list .«min_duration») stamps order) };
         minimum = refl;
         length-stays = long;
         rest = rw (← joined) (put-rest (stamps ++ wiped) (h .memory) m front places small);
@@ -143,15 +129,15 @@ module _ (h : Held) (g : NotBad h) where
   add-leaves t clear room =
       leaves (h .list .count + 1) (h .list .count + 1) (inserted t (stampsOf h)) []
       (omega (arith, insert-length t (stampsOf h), count-is)) (omega arith) (omega (arith, g .few))
-      (insert-sorted t (h .list .«min_duration») (stampsOf h) (g .order) clear)
+      (insert-sorted t (h .list .«min_duration») (stampsOf h) (sorted h g) clear)
 
   pub remove-leaves : (t : ℤ) → isIn h t ≡ true → Left h (withoutStamp h t) (leaveOut (same t) (stampsOf h))
   unfolding withoutStamp
   remove-leaves t there =
-      let one = leave-length (h .list .«min_duration») t (stampsOf h) (g .order) there in
+      let one = leave-length (h .list .«min_duration») t (stampsOf h) (sorted h g) there in
       leaves (h .list .count - 1) (h .list .count) (leaveOut (same t) (stampsOf h)) (pos 0 ∷ [])
       (omega (arith, count-is)) (omega (arith, count-is)) (g .few)
-      (leave-sorted (same t) (h .list .«min_duration») (stampsOf h) (g .order))
+      (leave-sorted (same t) (h .list .«min_duration») (stampsOf h) (sorted h g))
 
   pub empty-leaves : Left h (withoutStamps h) []
   unfolding withoutStamps

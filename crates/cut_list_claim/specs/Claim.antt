@@ -54,6 +54,10 @@ pub record RestUntouched (l : CutList) (first xs ys : List ℤ) : Type 0 where
 pub record ReadersAgree (h : Held) (t : ℤ) : Type 0 where
   -- the span from the least stamp, which is the first, to t has as many members as the clip of t
   pub span-is-clip : (x : ℤ) (xs : List ℤ) → stampsOf h ≡ x ∷ xs → spanIn h x t .count ≡ clipIn h t .clip
+  -- and starts at the first place
+  pub span-starts : (x : ℤ) (xs : List ℤ) → stampsOf h ≡ x ∷ xs → spanIn h x t .first ≡ 0
+  -- a list with stamps has a nearest one
+  pub nearest-is-there : (x : ℤ) (xs : List ℤ) → stampsOf h ≡ x ∷ xs → (s : Timestamp) × (nearestIn h t .nearest ≡ At s)
   -- the nearest stamp is one of the list
   pub nearest-is-in : (s : Timestamp) → nearestIn h t .nearest ≡ At s → anyOf (same (s .micros)) (stampsOf h) ≡ true
   -- no stamp of the list is closer, and of those as close it is the earliest

@@ -19,7 +19,8 @@ use Rattle.filter.specs.Flash.{fresh, seeded, minLengthMet, numMerged, c
 use Rattle.filter.specs.Calls.{Frame}
 use Rattle.laws.specs.Lists.{All}
 use Rattle.filter.specs.Claim.{KeepsDistance, NeverFall, stamps, cutsIn, Merged}
-use Rattle.filter.proofs.Frames.{answersFrom, cutsFrom, Chain, chain-down, chain-keeps, and-true}
+use Rattle.filter.proofs.Frames.{answersFrom, cutsFrom, Chain, chain-down, chain-keeps}
+use Rattle.laws.proofs.Bools.{and-true}
 
 abbrev counting : Timestamp → Bool → Bool → MaybeTimestamp → Filter
 counting t e b q = record { «last_above» = At t; «merge_enabled» = e; «merge_triggered» = b; «merge_start» = q }

@@ -1,7 +1,5 @@
 -- A fresh filter over a list of scored frames, and laws on stamps that keep a distance. Assumes nothing.
 use Prim.Native.Nat.{ℕ, _≤_, zero-le, suc-le-suc}
-use mathlib.Core.Path.{_≡_, refl}
-use mathlib.Core.Bool.{Bool, true, false, _&&_, false≢true}
 use mathlib.Core.List.{List, [], _∷_}
 use lib.IntN.{ℤ, pos, _+ℤ_}
 use lib.ListN.{length}
@@ -79,7 +77,3 @@ choice-length (pick h) = suc-le-suc (choice-length h)
 pub choice-first : (P : ℤ → Type 0) {y : Frame} {ys fs : List Frame} → Choice (y ∷ ys) fs → All P (stamps fs) → P (y .stamp .micros)
 choice-first P (skip h) q = choice-first P h (q .1)
 choice-first P (pick h) q = q .0
-
-pub and-true : (a b : Bool) → (a && b) ≡ true → (a ≡ true) × (b ≡ true)
-and-true true b e = (refl, e)
-and-true false b e = absurd (false≢true e)

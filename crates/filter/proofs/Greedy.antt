@@ -16,7 +16,8 @@ use Rattle.filter.specs.Flash.{fresh, virtualSeed, seeded, minLengthMet,
 use Rattle.filter.specs.Calls.{Frame}
 use Rattle.laws.specs.Lists.{All}
 use Rattle.filter.specs.Claim.{Choice, none, skip, pick, NeverFall, stamps, Suppressed}
-use Rattle.filter.proofs.Frames.{cutsFrom, Chain, chain-down, chain-distance, chain-from, keeps-chain, choice-cases, choice-rest, choice-length, choice-first, and-true}
+use Rattle.filter.proofs.Frames.{cutsFrom, Chain, chain-down, chain-distance, chain-from, keeps-chain, choice-cases, choice-rest, choice-length, choice-first}
+use Rattle.laws.proofs.Bools.{and-true}
 
 -- the filter that counts from t
 abbrev counting : Filter → Timestamp → Filter

@@ -1,22 +1,18 @@
 -- THE THEOREM: the spacing theorem for scored frames, as `specs/Claim.antt` states it, holds of every options and every list of calls from a fresh state. Assumes nothing.
 use mathlib.Core.Path.{_≡_, refl}
-use mathlib.Core.List.{List, [], _∷_}
+use mathlib.Core.List.{List}
 use Rattle.timestamp.specs.declared.MaybeTimestamp.{MaybeTimestamp}
 use Rattle.filter.specs.declared.FilterMode.{FilterMode}
 use Rattle.filter.specs.declared.FilterMode.the-variants.{Suppress, Merge}
 use Rattle.filter.specs.declared.FilterOptions.{FilterOptions}
 use Rattle.filter.specs.Flash.{fresh}
 use Rattle.filter.specs.Calls.{Frame, FilterCall, filterRun}
-use Rattle.laws.specs.Lists.{All}
+use Rattle.laws.proofs.All.{all-map}
 use Rattle.filter.specs.Claim.{Stretch, stretches, scoredFrames, InMode, StretchKeeps, FilterClaim}
 use Rattle.filter.proofs.Frames.{cutsFrom}
 use Rattle.filter.proofs.Greedy.{suppressed-keeps}
 use Rattle.filter.proofs.Distance.{merged-keeps}
 use Rattle.filter.proofs.Stretch.{Played, played, cuts-are, no-others, left-out}
-
-all-map : {A : Type 0} {P Q : A → Type 0} → ((x : A) → P x → Q x) → (xs : List A) → All P xs → All Q xs
-all-map f [] h = tt
-all-map f (x ∷ xs) h = (f x (h .0), all-map f xs (h .1))
 
 by-mode : (o : FilterOptions) (mode : FilterMode) → o .«filter_mode» ≡ mode → (fs : List Frame) → InMode mode o fs (cutsFrom o fresh fs)
 by-mode o Suppress e fs = suppressed-keeps o e fs

@@ -1,10 +1,11 @@
 -- What a frame that passes its check has: sides of at most 4,096, and each row within the plane.
 use mathlib.Core.Path.{_≡_, refl}
-use mathlib.Core.Bool.{Bool, true, false, cond, _||_}
+use mathlib.Core.Bool.{Bool, true, false, cond}
 use Prim.Native.Nat.{ℕ, _+_, _*_, _<_, _≤_}
 use native.Mathlib.Omega.{arith}
 use lib.Dec.{ltb}
 use borrow.Author.Tests.{ltb-false}
+use Rattle.laws.proofs.Bools.{or-false}
 use Rattle.laws.proofs.Grid.{row-end}
 use Rattle.frame.specs.Checks.{tooLarge, tooShort, planeRefusal, lumaRefusal, bgrRefusal, hsvRefusal}
 
@@ -13,10 +14,6 @@ pub record Accepted (row bytes width height stride : ℕ) : Type 0 where
   pub wide : width ≤ 4096
   pub high : height ≤ 4096
   pub rows : (y : ℕ) → y < height → y * stride + row ≤ bytes
-
-or-false : (a b : Bool) → (a || b) ≡ false → (a ≡ false) × (b ≡ false)
-or-false true b e = (e, cc)
-or-false false b e = (refl, e)
 
 -- no row of a table gave its number
 none-of : (a b c : Bool) (n : ℕ) → cond a 1 (cond b 2 (cond c 3 n)) ≡ 0 → (a ≡ false) × (b ≡ false) × (c ≡ false) × (n ≡ 0)

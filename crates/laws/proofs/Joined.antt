@@ -1,6 +1,6 @@
 -- Lists made of parts, one after the other: what a part reads, and what writing a part leaves. A part that lies past x is a part of
 -- what follows x.
-use mathlib.Core.Path.{_≡_, sym, ap, _∙_}
+use mathlib.Core.Path.{_≡_, sym, _∙_}
 use mathlib.Core.List.{List, [], _++_, append-assoc, append-nil}
 use Prim.Native.Nat.{ℕ, _+_, _-_, _*_}
 use native.Mathlib.Omega.{arith}

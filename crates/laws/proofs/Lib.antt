@@ -18,3 +18,4 @@ pub mod InPlace
 pub mod Stepped
 pub mod MaxAt
 pub mod Bools
+pub mod All

@@ -1,6 +1,6 @@
 -- What a loop that takes the steps g 0, g 1, .. knows after k of them. A record, so that g is found from a hypothesis.
 use Rattle.laws.specs.Steps.{steps}
-use mathlib.Core.Path.{_≡_, refl, sym, ap, _∙_}
+use mathlib.Core.Path.{_≡_, refl, ap, _∙_}
 use Prim.Native.Nat.{ℕ, zero, suc, _+_}
 use native.Mathlib.Numerals.{add-one}
 

@@ -10,6 +10,7 @@ use lib.Pow.{pow-lt}
 use lib.Ieee.{Float, nan, inf, fin, binary64, up, down, neg, lt, eq, fits}
 use lib.Ieee.Fits.{up-pos}
 use borrow.Author.Tests.{ltb-true, ltb-false, eqb-true, eq-eqb}
+use Rattle.laws.proofs.Bools.{and-true}
 use Rattle.laws.proofs.FloatTests.{origin, isZero, unsigned}
 use Rattle.score.specs.Floats.{absOf}
 
@@ -20,10 +21,6 @@ abs-below (inf true) h = refl
 abs-below (inf false) h = cc
 abs-below (fin true m e) h = refl
 abs-below (fin false m e) h = absurd (omega (arith, ltb-true (m * up e * 1) (0 * 1 * down e) h))
-
-and-first : (a b : Bool) → (a && b) ≡ true → a ≡ true
-and-first true b h = refl
-and-first false b h = h
 
 -- a zero is written in one way
 zero-at : (s : Bool) (e : ℤ) → T (fits binary64 (fin s zero e)) → e ≡ pos 0
@@ -37,7 +34,7 @@ unfolding eq
 abs-zero nan f h = cc
 abs-zero (inf s) f h = cc
 abs-zero (fin s zero e) f h = rw (zero-at s e f)
-abs-zero (fin s (suc m) e) f h = absurd (omega (arith, eqb-true (suc m * up e * 1) (0 * 1 * down e) (and-first _ _ h), mul-pos {m = suc m} {n = up e} (omega arith) (up-pos e)))
+abs-zero (fin s (suc m) e) f h = absurd (omega (arith, eqb-true (suc m * up e * 1) (0 * 1 * down e) (and-true _ _ h .0), mul-pos {m = suc m} {n = up e} (omega arith) (up-pos e)))
 
 none-below : (a b : ℕ) → b ≡ 0 → ltb 0 (a + b) ≡ false → (eqb a b && (false || eqb a 0)) ≡ true
 none-below a b z h =

@@ -1,6 +1,6 @@
 -- A line's call: the luma call of its frame, whatever scratch and magnitudes are lent, or 16.
 use mathlib.Core.Path.{_≡_, refl, sym, ap, _∙_}
-use mathlib.Core.Bool.{Bool, true, false, cond, _&&_, true≢false}
+use mathlib.Core.Bool.{Bool, true, false, cond}
 use mathlib.Core.List.{List, [], _∷_}
 use Prim.Native.Nat.{ℕ, _*_, _≤_}
 use native.Mathlib.Omega.{arith}
@@ -8,6 +8,7 @@ use borrow.Author.Tests.{leb-true}
 use lib.Dec.{eqb, leb}
 use lib.IntN.{ℤ, pos}
 use lib.ListN.{length, take, replicate, length-replicate}
+use Rattle.laws.proofs.Bools.{and-true}
 use Rattle.timestamp.specs.declared.Timestamp.{Timestamp}
 use Rattle.content.specs.declared.Detector.{Detector}
 use Rattle.content.specs.declared.Options.{Options}
@@ -29,14 +30,6 @@ pub lent : (d : Detector) (plane : List ℕ) (w h stride : ℕ) (ts : Timestamp)
 lent d plane w h stride ts store scratch magnitudes p q =
     lent-same (d .stream) (pictureOptions (d .options)) (badState d) (stepped d) (refusedAnswer d) (clearedAnswer d) plane w h stride ts store scratch (replicate 9216 0) magnitudes (replicate 1024 (pos 0))
     (p ∙ sym (length-replicate {A = ℕ} 9216 0)) (q ∙ sym (length-replicate 1024 (pos 0)))
-
-and-left : (a b : Bool) → a && b ≡ true → a ≡ true
-and-left true b h = refl
-and-left false b h = h
-
-and-right : (a b : Bool) → a && b ≡ true → b ≡ true
-and-right true b h = h
-and-right false b h = absurd (true≢false (sym h))
 
 -- a settings call with the defaults gives their fresh detector, whether they are refused or not
 same-cond : {A : Type 0} (t : Bool) (a : A) → cond t a a ≡ a
@@ -61,13 +54,15 @@ pixels-of [] h = omega arith
 pixels-of (s ∷ []) h = omega arith
 pixels-of (s ∷ w ∷ []) h = omega arith
 pixels-of (s ∷ w ∷ v ∷ vs) h =
-    leb-true (number w * number v) 1024
-    (and-left (leb (number w * number v) 1024) _ (and-right (isUpTo 4294967295 v) _ (and-right (isUpTo 4294967295 w) _ (and-right (isStamp s) _ h))))
+    let stamped = and-true (isStamp s) _ h .1 in
+    let wide = and-true (isUpTo 4294967295 w) _ stamped .1 in
+    let high = and-true (isUpTo 4294967295 v) _ wide .1 in
+    leb-true (number w * number v) 1024 (and-true (leb (number w * number v) 1024) _ high .0)
 
 by-frame : (line : List ℕ) (t : Bool) → isFrame line ≡ t → (lineOf line .«is_frame» ≡ t) × (lineOf line .width * lineOf line .height ≤ 1024)
 unfolding lineOf isFrame
 by-frame line true e =
-    let parts = and-right (leb (length line) 8192) (isFrameOf (fields line)) e in
+    let parts = and-true (leb (length line) 8192) (isFrameOf (fields line)) e .1 in
     rw e (frame-of (fields line) parts, pixels-of (fields line) parts)
 by-frame line false e = rw e (refl, omega arith)
 

@@ -13,18 +13,22 @@ ghost use Rattle.content.specs.declared.Detector.{Detector};
 ghost use Rattle.adaptive.specs.declared.Detector.{Detector as AdaptiveDetector};
 ghost use Rattle.content_words.specs.Record.{contentWords};
 ghost use Rattle.adaptive_words.specs.Record.{adaptiveWords};
+ghost use Rattle.cut_list.specs.declared.CutList.{CutList};
+ghost use Rattle.cut_list.specs.Record.{places};
+ghost use Rattle.cut_list_station.specs.Words.{listWords};
 ghost use Rattle.station_answer.specs.Answer.{answerWords};
 ghost use Rattle.station_answer.specs.Sizes.{storeBytes, scratchBytes, magnitudesCount};
 
 pub mod adaptive_exports;
 pub mod content_exports;
+pub mod list_exports;
 
 // The library's version: the major number times 65,536, the minor times 256, the patch.
 #[no_mangle]
 pub extern "C" fn mw_version() -> u32
-    ensures { λ r. ⌜ r ≡ 0x000300 ⌝ }
+    ensures { λ r. ⌜ r ≡ 0x000400 ⌝ }
 {
-    0x000300
+    0x000400
 }
 
 // How many words a content state has.
@@ -49,6 +53,22 @@ pub extern "C" fn mw_answer_words() -> u64
     ensures { λ r. ⌜ ((cut : MaybeTimestamp) (score : MaybeScore) (deltas : Components) (sums : Sums) → r ≡ length (answerWords cut score deltas sums)) ⌝ }
 {
     13
+}
+
+// How many words the record of a list has.
+#[no_mangle]
+pub extern "C" fn mw_list_words() -> u64
+    ensures { λ r. ⌜ ((l : CutList) → r ≡ length (listWords l)) ⌝ }
+{
+    3
+}
+
+// How many places of its memory a list uses, which is how many stamps it holds at most.
+#[no_mangle]
+pub extern "C" fn mw_list_places() -> u64
+    ensures { λ r. ⌜ r ≡ places ⌝ }
+{
+    512
 }
 
 // How many bytes the store of a frame of this size has; 0 for a size that every call refuses by 1.

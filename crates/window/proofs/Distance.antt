@@ -12,7 +12,8 @@ use Rattle.timestamp.specs.declared.MaybeTimestamp.the-variants.{None, At}
 use Rattle.filter.specs.Flash.{seeded, minLengthMet, cutIf}
 use Rattle.laws.specs.Lists.{All}
 use Rattle.filter.specs.Claim.{KeepsDistance, cutsIn}
-use Rattle.filter.proofs.Frames.{Chain, chain-keeps, chain-distance, and-true}
+use Rattle.filter.proofs.Frames.{Chain, chain-keeps, chain-distance}
+use Rattle.laws.proofs.Bools.{and-true}
 use Rattle.window.specs.declared.WindowOptions.{WindowOptions}
 use Rattle.window.specs.declared.Window.{Window}
 use Rattle.window.specs.declared.WindowStep.{WindowStep}

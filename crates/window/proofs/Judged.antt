@@ -9,7 +9,7 @@ use lib.Ieee.{Float}
 use Rattle.timestamp.specs.declared.Timestamp.{Timestamp}
 use Rattle.score.specs.declared.MaybeScore.the-variants.{Some}
 use Rattle.filter.specs.declared.FilterStep.{FilterStep}
-use Rattle.filter.proofs.Frames.{and-true}
+use Rattle.laws.proofs.Bools.{and-true}
 use Rattle.filter.specs.Flash.{flashFilter, suppressed}
 use Rattle.window.specs.declared.WindowOptions.{WindowOptions}
 use Rattle.window.specs.declared.Window.{Window}

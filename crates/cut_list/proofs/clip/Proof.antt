@@ -18,7 +18,7 @@ good : (c : tie.Else1) → isBad (held (c .before .before .args .list) (c .befor
 good c = sym (c .before .is-bad .ensures) ∙ c .if1 .left
 
 count-up-to-requires : tie.Need-count-up-to-requires
-count-up-to-requires c κs = let s = sound _ _ (good c) in omega (arith, s .few, s .room)
+count-up-to-requires c κs = let s = sound _ (good c) in omega (arith, s .few, s .room)
 
 returns-2 : tie.Need-returns-2
 returns-2 c = clip-done _ _ _ _ (good (c .before)) (c .count-up-to .ensures)

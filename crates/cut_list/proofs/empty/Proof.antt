@@ -24,7 +24,7 @@ good : (c : tie.Else1) → isBad (held (c .before .before .before .args .list) (
 good c = sym (c .before .is-bad .ensures) ∙ c .if1 .left
 
 wipe-requires : tie.Need-wipe-requires
-wipe-requires c κs = let s = sound _ _ (good (c .before)) in omega (arith, s .few, s .room)
+wipe-requires c κs = let s = sound _ (good (c .before)) in omega (arith, s .few, s .room)
 
 same-length-2 : tie.Need-same-length-2
 same-length-2 c = search needs

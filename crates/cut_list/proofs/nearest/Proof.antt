@@ -22,7 +22,7 @@ returns-2 c = nearest-none _ _ _ (good (c .before .before)) (c .if2 .taken)
 
 nearest-of-requires : tie.Need-nearest-of-requires
 nearest-of-requires c κs =
-    let s = sound _ _ (good (c .before .before)) in
+    let s = sound _ (good (c .before .before)) in
     (omega (arith, c .if2 .left), omega (arith, s .few, s .room))
 
 returns-3 : tie.Need-returns-3

@@ -18,10 +18,10 @@ good : (c : tie.Else1) → isBad (held (c .before .before .args .list) (c .befor
 good c = sym (c .before .is-bad .ensures) ∙ c .if1 .left
 
 count-before-requires : tie.Need-count-before-requires
-count-before-requires c κs = let s = sound _ _ (good c) in omega (arith, s .few, s .room)
+count-before-requires c κs = let s = sound _ (good c) in omega (arith, s .few, s .room)
 
 count-up-to-requires : tie.Need-count-up-to-requires
-count-up-to-requires c κs = let s = sound _ _ (good (c .before)) in omega (arith, s .few, s .room)
+count-up-to-requires c κs = let s = sound _ (good (c .before)) in omega (arith, s .few, s .room)
 
 sub-t9 : tie.Need-sub-t9
 sub-t9 c = search needs
