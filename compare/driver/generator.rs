@@ -62,8 +62,12 @@ impl Digest {
         self.bytes(&word.to_le_bytes());
     }
 
+    pub fn long(&mut self, long: u64) {
+        self.bytes(&long.to_le_bytes());
+    }
+
     pub fn double(&mut self, double: f64) {
-        self.bytes(&double.to_bits().to_le_bytes());
+        self.long(double.to_bits());
     }
 
     pub fn value(&self) -> u32 {

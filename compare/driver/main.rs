@@ -14,13 +14,18 @@ mod edges;
 #[cfg(rattle)]
 mod foreign;
 mod generator;
+#[cfg(rattle)]
+mod list_kinds;
+mod list_rules;
 mod lists;
+mod operations;
 #[cfg(rattle)]
 mod pixel;
 #[cfg(rattle)]
 mod rattle;
 mod replay;
 mod replay_filter;
+mod replay_list;
 #[cfg(rattle)]
 mod rules;
 mod rust;
@@ -29,6 +34,8 @@ mod session;
 mod session_inputs;
 #[cfg(rattle)]
 mod sessions;
+#[cfg(rattle)]
+mod sitting_lists;
 #[cfg(rattle)]
 mod station;
 mod stored_input;
@@ -109,6 +116,7 @@ fn rows(root: &Path, words: &[String]) -> Vec<table::Row> {
     rows.extend(wrapper::rows(which));
     rows.extend(border::rows());
     rows.extend(foreign::rows(which.seed));
+    rows.extend(sitting_lists::rows(which.seed, number(words, "--count", 120_000)));
     rows.extend(edges::rows());
     rows.extend(sessions::rows(root));
     rows.push(replays(root));

@@ -1,5 +1,5 @@
-//! What the replay programs must print, worked out by the oracle: their stored `stdout`. README.md states the
-//! batches in words.
+//! What the replay programs must print, worked out by the oracle, or by the rules where the Rust has no counterpart:
+//! their stored `stdout`. README.md states the batches in words.
 use crate::generator::{Digest, Generator};
 use crate::lists::{self, Listed};
 use crate::{adaptive_lists, rust};
@@ -10,7 +10,7 @@ use scenesdetect::{adaptive, content};
 use std::fmt::Write;
 
 /// The programs by name, with what each prints.
-pub fn outputs() -> [(&'static str, String); 6] {
+pub fn outputs() -> [(&'static str, String); 7] {
     [
         ("replay_hsv", pixels()),
         ("replay_planes", planes()),
@@ -18,6 +18,7 @@ pub fn outputs() -> [(&'static str, String); 6] {
         ("replay_filter", crate::replay_filter::lines()),
         ("replay_content", batches::<content::Detector>(|c| c % 24 + 1)),
         ("replay_adaptive", adaptive()),
+        ("replay_list", crate::replay_list::lines()),
     ]
 }
 
