@@ -44,6 +44,8 @@ mod table;
 #[cfg(rattle)]
 mod time;
 #[cfg(rattle)]
+mod time_lists;
+#[cfg(rattle)]
 mod wrapper;
 
 use std::path::{Path, PathBuf};

@@ -4,7 +4,7 @@
 use crate::generator::Generator;
 use crate::rules::Settings;
 use crate::station::{self, ADAPTIVE, CONTENT, Frame, Functions, Planes, Station};
-use crate::{rattle, rust};
+use crate::{rattle, rust, time_lists};
 use mediatime::Timestamp;
 use scenesdetect::content::{Components, DEFAULT_WEIGHTS};
 use scenesdetect::frame::{HsvFrame, LumaFrame, RgbFrame};
@@ -32,8 +32,8 @@ fn now() -> f64 {
     time.seconds as f64 * 1e9 + time.nanos as f64
 }
 
-/// The least time of a call, in nanoseconds per pixel. The first two calls are not counted.
-fn best(n: usize, mut call: impl FnMut(usize)) -> f64 {
+/// The least time of a call over n, in nanoseconds: per pixel, or per operation. The first two calls are not counted.
+pub fn best(n: usize, mut call: impl FnMut(usize)) -> f64 {
     let mut least = f64::INFINITY;
     for i in 0..RUNS as usize + 2 {
         let start = now();
@@ -44,7 +44,7 @@ fn best(n: usize, mut call: impl FnMut(usize)) -> f64 {
     least / n as f64
 }
 
-fn row(name: &str, rust: f64, rattle: f64) {
+pub fn row(name: &str, rust: f64, rattle: f64) {
     println!("{name:<36} {rust:>8.2} {rattle:>8.2} {:>8.3}", rattle / rust);
 }
 
@@ -252,4 +252,5 @@ pub fn print() {
         frame_calls(&Film::smooth(width, height), "smooth");
     }
     stages(1920, 1080);
+    [0, 64, 511].into_iter().for_each(time_lists::print);
 }
