@@ -4,8 +4,8 @@ use mathlib.Core.Bool.{true, false}
 use mathlib.Core.List.{List}
 use Prim.Native.Nat.{ℕ}
 use lib.IntN.{ℤ}
-use Rattle.cut_list.specs.Record.{Held, isBad}
-use Rattle.cut_list.specs.Change.{addNumber, added, removeNumber, removed, listNumber, emptied}
+use Rattle.cut_list.specs.Record.{Held, isBad, listNumber}
+use Rattle.cut_list.specs.Change.{addNumber, added, removeNumber, removed, emptied}
 use Rattle.cut_list.specs.Find.{nearestIn, spanIn, clipIn}
 use Rattle.cut_list_claim.specs.Run.{Operation, add, remove, empty, nearest, span, clip, operated}
 use Rattle.cut_list_station.specs.Words.{isList}
