@@ -238,7 +238,7 @@ static int listed(struct mw_list *list, int64_t *stamps)
     /* a tie; a cut itself */
     if (!look_up(list, stamps, 900000) || !look_up(list, stamps, 1400000))
         return 0;
-    /* too close to a cut after it, and not in the list; then a cut removed, and one put in its stead */
+    /* too close to a cut after it, and not in the list; then a cut removed, and another added */
     printf("list %u", (unsigned)mw_list_add(list, stamps, MW_LIST_PLACES, 1399999));
     printf(" %u,", (unsigned)mw_list_remove(list, stamps, MW_LIST_PLACES, 1399999));
     printf(" %u", (unsigned)mw_list_remove(list, stamps, MW_LIST_PLACES, 1400000));

@@ -420,7 +420,7 @@ static inline uint32_t mw_count(const struct mw_answer *answer)
 /* Of a state, as the last accepted call left it: score and components of the last frame; in the adaptive detector also
  * ratio and score of the last target. Each has_ function returns 1 or 0, and the value is 0.0 where there is none. The
  * place of a component is 0 for hue, 1 for saturation, 2 for luma, 3 for edges; any other place gives 0.0. Readers
- * refuse nothing; words that are not a state (the first list at the end of this file) have none of these. */
+ * refuse nothing; words that are not a state (see the end of this file) have none of these. */
 uint32_t mw_content_has_score(const struct mw_content *state);
 double mw_content_score(const struct mw_content *state);
 uint32_t mw_content_has_components(const struct mw_content *state);
@@ -447,14 +447,19 @@ double mw_adaptive_target(const struct mw_adaptive *state);
  *
  *     mw_list_new(&list, MW_DEFAULT_MIN_DURATION);
  *     ... after each frame that is accepted:
- *     if (mw_cut(&memory.answer, &cut))
+ *     if (mw_cut(&memory.answer, &cut)) {
  *         number = mw_list_add(&list, stamps, MW_LIST_PLACES, cut);
+ *         if (number != MW_OK)
+ *             fprintf(stderr, "cut not listed: %s\n", mw_text(number));
+ *     }
  *
- * The cuts of a content detector: with MW_SUPPRESS and a min_duration of at least 1, the cuts of one stretch can be
- * added, in the order in which they are reported, to an empty list of the same min_duration. None of them is refused by
- * 17, and by 18 only those from the 513th on. This is proved. Other cuts may be refused by 17: with a min_duration of 0
- * two cuts can be equal, and those of two stretches, or in MW_MERGE of one whose timestamps fall, can be closer to each
- * other than min_duration. A list with a min_duration of 0 or 1 takes all stamps that differ, up to 512.
+ * The cuts of a detector: with MW_SUPPRESS and a min_duration of at least 1, the cuts of one stretch can be added, in
+ * the order in which they are reported, to an empty list of the same min_duration. None of them is refused by 17, and
+ * by 18 only those from the 513th on. The same holds of the cuts of an adaptive detector from clear to clear. This is
+ * proved. Other cuts may be refused by 17: with a min_duration of 0 two cuts can be equal, and those of two stretches,
+ * or in MW_MERGE of one whose timestamps fall, can be closer to each other than min_duration. A list with a
+ * min_duration of 0 or 1 takes all stamps that differ, up to 512. When 18 is returned, keep the stamps elsewhere and
+ * empty the list, or go on with another one.
  *
  * list and stamps belong together: hand both to the next call as the last call left them. At least MW_LIST_PLACES
  * int64_t's of stamps are needed; more are accepted, and those from place MW_LIST_PLACES on are never read or written.
@@ -463,10 +468,10 @@ double mw_adaptive_target(const struct mw_adaptive *state);
  * contents, except that a place that becomes free is set to 0. A list holds no pointer, so it may be copied, and kept
  * in a file together with its stamps.
  *
- * Each call on a list but mw_list_new first checks it, also one that only reads it. 15 is returned for words of another
- * version, a count over 512, a stamps_len under 512, and stamps in the first count places that do not rise or are
- * closer to each other than min_duration. A list that mw_list_new made is never refused by 15, as long as the list and
- * its 512 places are handed back as they were left. This is proved too.
+ * Each call on a list but mw_list_new first checks it, also one that only reads it. 15 (MW_BAD_STATE) is returned for
+ * words of another version, a count over 512, a stamps_len under 512, and stamps in the first count places that do not
+ * rise or are closer to each other than min_duration. A list that mw_list_new made is never refused by 15, as long as
+ * it and its memory, of at least 512 places, are handed back as they were left. This is proved too.
  *
  * Differences are taken in whole numbers, up to 2^64 - 1; nothing wraps. */
 
@@ -508,7 +513,7 @@ uint32_t mw_list_nearest(const struct mw_list *list, const int64_t *stamps, size
  * than to. Refused by 15. */
 struct mw_span {
     uint64_t first; /* the place of the first of them, from 0 */
-    uint64_t count; /* how many they are: stamps[first] to stamps[first + count - 1] */
+    uint64_t count; /* how many there are: stamps[first] to stamps[first + count - 1] */
 };
 uint32_t mw_list_span(const struct mw_list *list, const int64_t *stamps, size_t stamps_len, int64_t from, int64_t to,
                       struct mw_span *span);

@@ -17,8 +17,8 @@
 //! [`ContentDetector`] compares each score with a fixed threshold. [`AdaptiveDetector`] compares it with the scores of
 //! the frames around it and reports the cut some frames later. [`CutList`] keeps the cuts at hand while the film runs.
 //!
-//! A detector owns its state and the memory that the library works on, so no call is refused for short memory; so does
-//! a list. A call that is refused returns a [`Refusal`] and changes nothing: the stream goes on as if the call had not
+//! A detector and a list own their state and the memory that the library works on, so no call is refused for short
+//! memory. A call that is refused returns a [`Refusal`] and changes nothing: the stream goes on as if the call had not
 //! been made. Different threads may use different detectors and lists at the same time.
 //!
 //! No other crate is needed, only the archive `libstation.a`, of the same version up to the patch number (see
@@ -848,7 +848,9 @@ impl AdaptiveDetector {
 /// let mut cuts = CutList::new(options.min_duration);
 /// for (ts, luma) in frames {
 ///     if let Some(cut) = detector.process_luma(&luma, width, height, width, ts)?.cut {
-///         cuts.add(cut)?;
+///         if let Err(refusal) = cuts.add(cut) {
+///             eprintln!("cut not listed: {refusal}");
+///         }
 ///     }
 ///     println!("clip {}", cuts.clip(ts));
 /// }
@@ -857,10 +859,10 @@ impl AdaptiveDetector {
 ///
 /// With [`FilterMode::Suppress`] and a `min_duration` of at least 1, the cuts of one stretch can be added, in the order
 /// in which they are reported, to an empty list of the same `min_duration`: none is refused by 17, and by 18 only those
-/// from the 513th on. This is proved of the library. Other cuts may be refused by 17: with a `min_duration` of 0 two
-/// cuts can be equal, and those of two stretches, or with [`FilterMode::Merge`] of one whose timestamps fall, can be
-/// closer to each other than `min_duration`. A list with a `min_duration` of 0 or 1 takes all stamps that differ, up to
-/// 512.
+/// from the 513th on. The same holds of the cuts of an [`AdaptiveDetector`] from `clear` to `clear`. This is proved of
+/// the library. Other cuts may be refused by 17: with a `min_duration` of 0 two cuts can be equal, and those of two
+/// stretches, or with [`FilterMode::Merge`] of one whose timestamps fall, can be closer to each other than
+/// `min_duration`. A list with a `min_duration` of 0 or 1 takes all stamps that differ, up to 512.
 ///
 /// A `CutList` is always a valid list, so that only `add`, `remove` and `from_words` can be refused.
 #[derive(Clone)]

@@ -39,7 +39,7 @@ pub struct NearestStamp {
     pub nearest: MaybeTimestamp,
 }
 
-// The stamps within a span: the place of the first, from 0, and how many they are; 0 and 0 if there is none.
+// The stamps within a span: the place of the first, from 0, and how many there are; 0 and 0 if there is none.
 pub struct StampsWithin {
     pub number: u32,
     pub first: usize,

@@ -43,7 +43,7 @@ abbrev pub FitsList : (minimum : ℕ) → (memory : List ℤ) → List ℤ → T
 FitsList d memory ts =
     map (λ (y : Operated). y .number) (listRun (held (newList d) memory) (map add ts)) ≡ fittingNumbers ts
 
--- The places from 512 on are not read and not written: with others in their stead each operation brings the same, and leaves them as they are
+-- The places from 512 on are not read and not written: with other contents there each operation gives the same, and leaves them as they are
 -- (RULES 17.10).
 pub record RestUntouched (l : CutList) (first xs ys : List ℤ) : Type 0 where
   pub numbers : (o : Operation) → operated (held l (first ++ xs)) o .number ≡ operated (held l (first ++ ys)) o .number

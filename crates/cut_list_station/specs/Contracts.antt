@@ -54,7 +54,7 @@ pub record NearestContract (x : NearestStamp) (r : ℕ) (a a′ : List ℕ) : Ty
 pub record SpanContract (x : StampsWithin) (r : ℕ) (a a′ : List ℕ) : Type 0 where
   -- it returns the number that the definition gives
   pub number : r ≡ x .number
-  -- an accepted call writes the place of the first stamp and how many they are, and a refused one leaves the answer as it was
+  -- an accepted call writes the place of the first stamp and how many there are, and a refused one leaves the answer as it was
   pub answer : a′ ≡ after r (x .first ∷ x .count ∷ []) a
 
 -- the clip of a stamp

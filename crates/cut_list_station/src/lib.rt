@@ -100,7 +100,7 @@ pub fn nearest(list: &[u64; 3], stamps: &[i64], ts: i64, answer: &mut [u64; 2]) 
     nearest_number
 }
 
-// The stamps from one stamp to another, both ends counted: the place of the first, from 0, and how many they are.
+// The stamps from one stamp to another, both ends counted: the place of the first, from 0, and how many there are.
 pub fn span(list: &[u64; 3], stamps: &[i64], from: i64, to: i64, answer: &mut [u64; 2]) -> u32
     ensures { λ r. ⌜ SpanContract (spanIn (held (listOf (now (list .entry))) (now (stamps .entry))) from to) r (now (answer .entry)) (now (answer .exit)) ⌝ }
 {

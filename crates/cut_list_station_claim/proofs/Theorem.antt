@@ -7,9 +7,11 @@ use Prim.Native.Nat.{ℕ, _≤_}
 use lib.IntN.{ℤ}
 use lib.ListN.{length, drop}
 use Rattle.laws.specs.Lists.{All}
+use Rattle.laws.proofs.All.{all-map}
 use Rattle.timestamp.specs.declared.MaybeTimestamp.{MaybeTimestamp}
 use Rattle.filter.specs.declared.FilterMode.the-variants.{Suppress}
-use Rattle.filter.specs.Claim.{Stretch, stretches, cuts}
+use Rattle.filter.specs.Claim.{Stretch, stretches, cutsIn, cuts}
+use Rattle.adaptive.specs.declared.Options.{Options as AdaptiveOptions}
 use Rattle.content.specs.declared.Options.{Options}
 use Rattle.content.specs.Options.{filterOptions}
 use Rattle.cut_list.specs.declared.CutList.{CutList}
@@ -18,9 +20,9 @@ use Rattle.cut_list.specs.Change.{Turn, same, anyOf}
 use Rattle.cut_list_claim.specs.Run.{operated, Operated, listRun, listAfter, addedSince}
 use Rattle.cut_list_claim.specs.Claim.{Apart, ListClaim, FitsList}
 use Rattle.cut_list_claim.proofs.Theorem.{list-claim}
-use Rattle.cut_list_claim.proofs.Cuts.{stretches-fit}
+use Rattle.cut_list_claim.proofs.Cuts.{keeps-fit, stretches-fit}
 use Rattle.station_claim.specs.Run.{StationCall}
-use Rattle.station_claim.specs.Claim.{withCutRead, ContentSpacing}
+use Rattle.station_claim.specs.Claim.{withCutRead, ContentSpacing, readFromClearToClear, AdaptiveSpacing}
 use Rattle.cut_list_station.specs.Words.{listOf}
 use Rattle.cut_list_station.specs.Contracts.{NewContract, ChangeContract}
 use Rattle.cut_list_station_claim.specs.Run.{ListCall, operationOf, operatedBy, ListCallMade, by-add, by-remove, by-empty, by-nearest, by-span, by-clip, ListCallsMade, none, then}
@@ -95,7 +97,7 @@ module _ (minimum : ℕ) (s s′ : List ℕ) (m m′ : List ℤ) (ys : List List
         rest-stays = ap (λ (h : Held). drop places (h .memory)) left ∙ claim .rest-stays;
       }
 
--- ---- the cuts of a stretch
+-- ---- the cuts of a detector
 
 numbers-of : (ys : List ListCall) → map (λ (y : ListCall). y .number) ys ≡ map (λ (y : Operated). y .number) (map operatedBy ys)
 numbers-of [] = refl
@@ -105,16 +107,19 @@ fits-by-calls : (d : ℕ) (m ts : List ℤ) → FitsList d m ts → FitsByCalls 
 fits-by-calls d m ts fits s s′ m′ ys wrote made e =
     numbers-of ys ∙ ap (map (λ (y : Operated). y .number)) (numbers d s s′ m m′ ys wrote made ∙ ap (listRun (held (newList d) m)) e) ∙ fits
 
-all-fit : (d : ℕ) (m : List ℤ) (xs : List (Stretch MaybeTimestamp)) → All (λ (x : Stretch MaybeTimestamp). FitsList d m (cuts x)) xs
-    → All (λ (x : Stretch MaybeTimestamp). FitsByCalls d m (cuts x)) xs
-all-fit d m [] a = tt
-all-fit d m (x ∷ xs) a = (fits-by-calls d m (cuts x) (a .0), all-fit d m xs (a .1))
-
 -- the cuts that a station reads from the answers of a content detector, in Suppress with a minimum of at least 1, fit a list by its calls: what is
 -- asked of the detector's calls, `station_claim` proves of every list of them from the words of a settings call
 pub cuts-fit : (o : Options) (s : List ℕ) (zs : List StationCall) → ContentSpacing o s zs → o .«filter_mode» ≡ Suppress → 1 ≤ o .«min_duration»
     → (m : List ℤ) → places ≤ length m
     → All (λ (x : Stretch MaybeTimestamp). FitsByCalls (o .«min_duration») m (cuts x)) (stretches (map (withCutRead o) zs))
 cuts-fit o s zs spacing mode one m long =
-    all-fit (o .«min_duration») m (stretches (map (withCutRead o) zs))
+    all-map (λ x. fits-by-calls (o .«min_duration») m (cuts x)) (stretches (map (withCutRead o) zs))
     (stretches-fit (filterOptions o) mode one m long (map (withCutRead o) zs) (spacing .holds))
+
+-- and so do those of an adaptive detector, from `clear` to `clear`
+pub adaptive-cuts-fit : (o : AdaptiveOptions) (s : List ℕ) (zs : List StationCall) → AdaptiveSpacing o s zs → 1 ≤ o .«min_duration»
+    → (m : List ℤ) → places ≤ length m
+    → All (λ (cs : List MaybeTimestamp). FitsByCalls (o .«min_duration») m (cutsIn cs)) (readFromClearToClear zs)
+adaptive-cuts-fit o s zs spacing one m long =
+    all-map (λ cs k. fits-by-calls (o .«min_duration») m (cutsIn cs) (keeps-fit (o .«min_duration») one m long (cutsIn cs) k))
+    (readFromClearToClear zs) (spacing .distance)

@@ -68,7 +68,7 @@ fn clip(list: CutList, memory: &[i64], ts: Timestamp, d: Digest) -> Done {
     }
 }
 
-// One operation.
+// An operation of this kind on the list, with its number and answer in the digest.
 fn operate(k: Kind, list: CutList, memory: &mut [i64], a: u64, b: u64, d: Digest) -> Done {
     let ts = numbers::stamp(a);
     match k {

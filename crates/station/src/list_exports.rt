@@ -51,7 +51,7 @@ pub extern "C" fn mw_list_nearest(
     cut_list_station::nearest(list, stamps, ts, nearest)
 }
 
-// The stamps from one stamp to another, both ends counted: the place of the first, from 0, and how many they are.
+// The stamps from one stamp to another, both ends counted: the place of the first, from 0, and how many there are.
 #[no_mangle]
 pub extern "C" fn mw_list_span(
     list: &[u64; 3],

@@ -1,4 +1,5 @@
--- What the Rust's `Timestamp` computes (RULES 1.2 to 1.4), and the distance of two stamps (RULES 1.6). A stamp is a whole number of microseconds, a duration a natural number of them.
+-- What the Rust's `Timestamp` computes (RULES 1.2 to 1.4), and the distance of two stamps (RULES 1.6). A stamp is a whole number of microseconds,
+-- a duration a natural number of them.
 use Prim.Native.Nat.{ℕ}
 use mathlib.Core.Bool.{cond}
 use lib.IntN.{ℤ, pos, negsuc, natAbs, _-ℤ_}
