@@ -219,10 +219,11 @@ pub fn add(list: CutList, memory: &mut [i64], ts: Timestamp) -> Changed
     let place = count_before(memory, list.count, ts);
     let earlier = follows_earlier(memory, place, list.min_duration, ts);
     let later = later_follows(memory, list.count, place, list.min_duration, ts);
+    let full = list.count == MOST_STAMPS;
     if !(earlier & later) {
         return refused(17, list);
     }
-    if list.count == MOST_STAMPS {
+    if full {
         return refused(18, list);
     }
     insert(memory, list.count, place, ts);

@@ -4,9 +4,9 @@ use native.Mathlib.Omega.{arith}
 use mathlib.Core.Path.{_≡_, sym, _∙_}
 use mathlib.Core.Bool.{false, _&&_}
 use borrow.Author.Needs.{needs}
-use borrow.Author.Tests.{not-true, not-false}
+use borrow.Author.Tests.{not-true, not-false, eqb-true, eqb-false}
 use lib.IntN.{ℤ}
-use Rattle.cut_list.specs.Record.{held, isBad}
+use Rattle.cut_list.specs.Record.{places, held, isBad}
 use Rattle.cut_list.proofs.Brought.{Sound, sound, place, place-le, follows-earlier, later-follows, tests-are, add-bad, add-close, add-full, add-done}
 use Rattle.cut_list.proofs.add.Statement.{statement}
 use Rattle.cut_list.proofs.add.Tie as tie
@@ -66,7 +66,7 @@ same-length-2 c = search needs
 
 returns-2 : tie.Need-returns-2
 returns-2 c =
-    let l = c .before .before in
+    let l = c .before .before .before in
     rw (c .refused2 .ensures .0, c .refused2 .ensures .1) (add-close _ _ _ (good (past l)) (both l ∙ not-true _ (c .before .if2 .taken)))
 
 refused-requires-3 : tie.Need-refused-requires-3
@@ -78,16 +78,17 @@ same-length-3 c = search needs
 returns-3 : tie.Need-returns-3
 returns-3 c =
     let l = c .before .before .before .before in
-    rw (c .refused3 .ensures .0, c .refused3 .ensures .1) (add-full _ _ _ (good (past l)) (both l ∙ not-false _ (c .before .before .before .if2 .left)) (c .before .if3 .taken))
+    rw (c .refused3 .ensures .0, c .refused3 .ensures .1) (add-full _ _ _ (good (past l)) (both l ∙ not-false _ (c .before .before .if2 .left)) (eqb-true _ _ (c .before .if3 .taken)))
 
 insert-requires : tie.Need-insert-requires
 insert-requires c κs =
     let l = c .before .before .before .before in
     let r = room (past l) in
-    (inside (l .before .before .before .before), omega (arith, r .few, r .room, c .before .if3 .left))
+    let free : past l .before .before .before .args .list .count ≡ places → ⊥ = eqb-false _ _ (c .before .if3 .left) in
+    (inside (l .before .before .before .before), omega (arith, r .few, r .room, free))
 
-add-t21 : tie.Need-add-t21
-add-t21 c = let r = room (past (c .before .before .before .before .before .before .before)) in omega (arith, r .few)
+add-t22 : tie.Need-add-t22
+add-t22 c = let r = room (past (c .before .before .before .before .before .before .before)) in omega (arith, r .few)
 
 same-length-4 : tie.Need-same-length-4
 same-length-4 c = search needs
@@ -96,7 +97,7 @@ returns-4 : tie.Need-returns-4
 returns-4 c =
     let l = c .before .before .before .before .before .before .before in
     rw (c .before .before .insert .ensures, at-place (l .before .before .before .before))
-    (add-done _ _ _ (good (past l)) (both l ∙ not-false _ (c .before .before .before .before .before .before .if2 .left)) (c .before .before .before .before .if3 .left))
+    (add-done _ _ _ (good (past l)) (both l ∙ not-false _ (c .before .before .before .before .before .if2 .left)) (eqb-false _ _ (c .before .before .before .before .if3 .left)))
 
 pub add-spec : {M : Type 1} → statement M
 add-spec =
@@ -116,6 +117,6 @@ add-spec =
     same-length-3
     returns-3
     insert-requires
-    add-t21
+    add-t22
     same-length-4
     returns-4)
