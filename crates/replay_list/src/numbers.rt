@@ -1,15 +1,18 @@
 // Numbers by the bytes of a record, and stamps by numbers of 64 bits.
+ghost use mathlib.Core.Path.{_≡_};
 ghost use Prim.Native.Nat.{_<_, _≤_};
 ghost use lib.ListN.{length};
 use timestamp::Timestamp;
 
 pub fn long_of(b: u8) -> u64
+    ensures { λ n. ⌜ n ≡ b ⌝ }
     ensures { λ r. ⌜ r < 256 ⌝ }
 {
     b as u64
 }
 
 pub fn size_of(b: u8) -> usize
+    ensures { λ n. ⌜ n ≡ b ⌝ }
     ensures { λ r. ⌜ r < 256 ⌝ }
 {
     b as usize

@@ -1,4 +1,9 @@
 // The list that a start describes: its record, and the memory before the first operation.
+ghost use mathlib.Core.Path.{_≡_};
+ghost use Prim.Native.Nat.{_<_};
+ghost use lib.ListN.{getD};
+ghost use Rattle.cut_list.specs.Record.{cutList};
+ghost use Rattle.replay_list.specs.Starts.{minima, minimumOf, countBy, countOf, stepBy, stepOf};
 use crate::numbers;
 use cut_list::CutList;
 
@@ -21,14 +26,24 @@ const MINIMA: [u64; 16] = [
     18446744073709551615,
 ];
 
-pub fn minimum(r: &[u8; 32]) -> u64 {
-    MINIMA[(r[0] % 16) as usize]
+fn minimum_at(i: usize) -> u64
+    requires { ⌜ i < 16 ⌝ }
+    ensures { λ n. ⌜ n ≡ getD minima i 0 ⌝ }
+{
+    MINIMA[i]
 }
 
-// How many stamps a list starts with.
-pub fn count(r: &[u8; 32]) -> usize {
-    let kind = r[12] % 16;
-    let b = numbers::size_of(r[13]);
+// The minimum of the list.
+pub fn minimum(r: &[u8; 32]) -> u64
+    ensures { λ n. ⌜ n ≡ minimumOf (now (r .entry)) ⌝ }
+{
+    minimum_at((r[0] % 16) as usize)
+}
+
+fn count_by(kind: u8, b: usize) -> usize
+    requires { ⌜ b < 256 ⌝ }
+    ensures { λ n. ⌜ n ≡ countBy kind b ⌝ }
+{
     if kind <= 3 {
         return 0;
     }
@@ -56,10 +71,17 @@ pub fn count(r: &[u8; 32]) -> usize {
     512
 }
 
-// How far one place of the first memory is past the one before it.
-pub fn step(r: &[u8; 32], minimum: u64) -> u64 {
-    let kind = r[1] % 16;
-    let b = numbers::long_of(r[2]);
+// How many stamps a list starts with.
+pub fn count(r: &[u8; 32]) -> usize
+    ensures { λ n. ⌜ n ≡ countOf (now (r .entry)) ⌝ }
+{
+    count_by(r[12] % 16, numbers::size_of(r[13]))
+}
+
+fn step_by(kind: u8, b: u64, minimum: u64) -> u64
+    requires { ⌜ b < 256 ⌝ }
+    ensures { λ n. ⌜ n ≡ stepBy kind b minimum ⌝ }
+{
     if kind <= 8 {
         if minimum == 0 {
             return 1;
@@ -70,7 +92,10 @@ pub fn step(r: &[u8; 32], minimum: u64) -> u64 {
         return std::num::wrapping_add_u64(minimum, 1);
     }
     if kind == 11 {
-        return std::num::wrapping_sub_u64(minimum, 1);
+        if minimum == 0 {
+            return 18446744073709551615;
+        }
+        return minimum - 1;
     }
     if kind == 12 {
         return 0;
@@ -82,6 +107,13 @@ pub fn step(r: &[u8; 32], minimum: u64) -> u64 {
         return 18014398509481984;
     }
     256 * b + 1
+}
+
+// How far one place of the first memory is past the one before it.
+pub fn step(r: &[u8; 32], minimum: u64) -> u64
+    ensures { λ n. ⌜ n ≡ stepOf (now (r .entry)) minimum ⌝ }
+{
+    step_by(r[1] % 16, numbers::long_of(r[2]), minimum)
 }
 
 // The number from which the last of n places with this step is 2^64 - 1.
@@ -122,7 +154,9 @@ pub fn fill(memory: &mut [i64], first: u64, step: u64) {
 }
 
 // A new list, or one that holds stamps already.
-pub fn opened(minimum: u64, count: usize) -> CutList {
+pub fn opened(minimum: u64, count: usize) -> CutList
+    ensures { λ l. ⌜ l ≡ cutList minimum count ⌝ }
+{
     if count == 0 {
         return cut_list::new(minimum);
     }
