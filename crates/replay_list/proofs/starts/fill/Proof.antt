@@ -43,7 +43,7 @@ loop-again : tie.Need-loop-again Inv-loop μ-loop
 loop-again c =
     let t = c .before .before .before .before .before in
     (omega arith, (stepped-more (t .loop .inv .1 .0) refl (c .wrapping-add-u64 .ensures),
-    filled-put _ (t .loop .inv .1 .1) (omega arith) (ap stampOf (t .loop .inv .1 .0 .at)) (c .before .put .ensures)))
+    filled-put _ (t .loop .inv .1 .1) (omega arith) (ap stampOf (t .loop .inv .1 .0 .at)) (c .before .before .put .ensures)))
 
 same-length : tie.Need-same-length Inv-loop μ-loop
 same-length c = search needs
