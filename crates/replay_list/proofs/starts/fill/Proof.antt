@@ -1,11 +1,11 @@
 -- `starts::fill` meets its contract: each place once. The invariant: the places below i are written, and n is the number of place i.
-use mathlib.Core.Path.{_≡_, refl, ap, _∙_}
+use mathlib.Core.Path.{_≡_, refl, ap}
 use mathlib.Core.List.{List}
 use Prim.Native.Nat.{ℕ, _≤_, _<_, _+_, _-_, _%_}
 use native.Mathlib.Omega.{arith}
 use lib.IntN.{ℤ, pos}
 use lib.ListN.{length, set}
-use Rattle.laws.proofs.Stepped.{Stepped, stepped-none, stepped-more, stepped-all}
+use Rattle.laws.proofs.Stepped.{Stepped, stepped-none, stepped-more}
 use Rattle.laws.proofs.Tab.{Filled, filled-none, filled-more, filled-all}
 use Rattle.replay_list.specs.Numbers.{stampOf}
 use Rattle.replay_list.specs.Fill.{numberAt}
