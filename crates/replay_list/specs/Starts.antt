@@ -4,6 +4,8 @@ use mathlib.Core.Bool.{cond}
 use mathlib.Core.List.{List, [], _∷_}
 use lib.Dec.{eqb, leb}
 use lib.ListN.{getD}
+use Rattle.replay_list.specs.Numbers.{wideOf}
+use Rattle.replay_list.specs.Fill.{backOf}
 
 -- the minima, by place
 abbrev pub minima : List ℕ
@@ -44,3 +46,8 @@ stepBy kind b m =
 -- the step, by r[1] % 16 and r[2]
 unfoldable pub stepOf : List ℕ → (minimum : ℕ) → ℕ
 stepOf r m = stepBy (getD r 1 0 % 16) (getD r 2 0) m
+
+-- the number of the first place, by r[3] % 8: 0 and 1 0; 2 to 4 such that the last stamp of the list is 2^64 - 1; 5 2^63; otherwise r[4] to r[11]
+unfoldable pub firstOf : List ℕ → (step count : ℕ) → ℕ
+firstOf r step n =
+    cond (leb (getD r 3 0 % 8) 1) 0 (cond (leb (getD r 3 0 % 8) 4) (backOf step n) (cond (eqb (getD r 3 0 % 8) 5) 9223372036854775808 (wideOf r 4)))

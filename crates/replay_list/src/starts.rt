@@ -1,9 +1,10 @@
 // The list that a start describes: its record, and the memory before the first operation.
 ghost use mathlib.Core.Path.{_≡_};
 ghost use Prim.Native.Nat.{_<_};
-ghost use lib.ListN.{getD};
+ghost use lib.ListN.{length, getD};
 ghost use Rattle.cut_list.specs.Record.{cutList};
-ghost use Rattle.replay_list.specs.Starts.{minima, minimumOf, countBy, countOf, stepBy, stepOf};
+ghost use Rattle.replay_list.specs.Fill.{backOf, filledOf};
+ghost use Rattle.replay_list.specs.Starts.{minima, minimumOf, countBy, countOf, stepBy, stepOf, firstOf};
 use crate::numbers;
 use cut_list::CutList;
 
@@ -117,7 +118,9 @@ pub fn step(r: &[u8; 32], minimum: u64) -> u64
 }
 
 // The number from which the last of n places with this step is 2^64 - 1.
-fn back(step: u64, n: usize) -> u64 {
+fn back(step: u64, n: usize) -> u64
+    ensures { λ r. ⌜ r ≡ backOf step n ⌝ }
+{
     let mut first: u64 = 18446744073709551615;
     let mut i: usize = 1;
     while i < n {
@@ -128,7 +131,9 @@ fn back(step: u64, n: usize) -> u64 {
 }
 
 // The number of the first place.
-pub fn first(r: &[u8; 32], step: u64, count: usize) -> u64 {
+pub fn first(r: &[u8; 32], step: u64, count: usize) -> u64
+    ensures { λ n. ⌜ n ≡ firstOf (now (r .entry)) step count ⌝ }
+{
     let kind = r[3] % 8;
     if kind <= 1 {
         return 0;
@@ -143,7 +148,9 @@ pub fn first(r: &[u8; 32], step: u64, count: usize) -> u64 {
 }
 
 // All places of the memory, from a first one on.
-pub fn fill(memory: &mut [i64], first: u64, step: u64) {
+pub fn fill(memory: &mut [i64], first: u64, step: u64)
+    ensures { λ _. ⌜ now (memory .exit) ≡ filledOf (length (now (memory .entry))) first step ⌝ }
+{
     let mut n = first;
     let mut i: usize = 0;
     while i < memory.len() {

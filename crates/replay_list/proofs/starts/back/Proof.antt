@@ -1,17 +1,25 @@
--- `starts::back` ends.
-use Prim.Native.Nat.{_<_, _-_}
+-- `starts::back` meets its contract: i - 1 steps at i.
+use mathlib.Core.Path.{_≡_, refl}
+use Prim.Native.Nat.{ℕ, _<_, _≤_, _+_, _-_, _%_}
+use native.Mathlib.Omega.{arith}
 use borrow.Author.Needs.{needs}
+use Rattle.laws.proofs.Stepped.{Stepped, stepped-none, stepped-more, stepped-all}
+use Rattle.replay_list.specs.Fill.{}
+use Rattle.replay_list.specs.Numbers.{lessOf}
 use Rattle.replay_list.proofs.starts.back.Statement.{statement}
 use Rattle.replay_list.proofs.starts.back.Tie as tie
 
+less-is : (r a b : ℕ) → r < 18446744073709551616 → b < 18446744073709551616 → (r + b) % 18446744073709551616 ≡ a → r ≡ lessOf a b
+less-is r a b p q e = omega arith
+
 abbrev Inv-loop : tie.InvT-loop
-Inv-loop step n first₀ i₀ first i = 0 < i
+Inv-loop step n first₀ i₀ first i = (0 < i) × ((i - 1 ≤ n - 1) × Stepped (λ _ m. lessOf m step) 18446744073709551615 (i - 1) first)
 
 abbrev μ-loop : tie.MeasureT-loop
 μ-loop step n first₀ i₀ first i = n - i
 
 loop-holds : tie.Need-loop-holds Inv-loop μ-loop
-loop-holds c = search needs
+loop-holds c = (omega arith, (omega arith, stepped-none refl))
 
 wrapping-sub-u64-requires : tie.Need-wrapping-sub-u64-requires Inv-loop μ-loop
 wrapping-sub-u64-requires c κs = search needs
@@ -23,10 +31,12 @@ loop-less : tie.Need-loop-less Inv-loop μ-loop
 loop-less c = search needs
 
 loop-again : tie.Need-loop-again Inv-loop μ-loop
-loop-again c = search needs
+loop-again c =
+    (omega arith, (omega arith, stepped-more (c .before .before .loop .inv .1 .1) (omega arith)
+    (less-is _ _ _ (omega arith) (omega arith) (c .wrapping-sub-u64 .ensures))))
 
 returns : tie.Need-returns Inv-loop μ-loop
-returns c = search needs
+returns c = stepped-all (c .before .loop .inv .1 .1) (omega arith)
 
 pub back-spec : {M : Type 1} → statement M
 back-spec =
