@@ -31,9 +31,14 @@ loop-less : tie.Need-loop-less Inv-loop μ-loop
 loop-less c = search needs
 
 loop-again : tie.Need-loop-again Inv-loop μ-loop
-loop-again c =
-    (omega arith, (omega arith, stepped-more (c .before .before .loop .inv .1 .1) (omega arith)
-    (less-is _ _ _ (omega arith) (omega arith) (c .wrapping-sub-u64 .ensures))))
+loop-again c = (
+  omega arith,
+  (
+    omega arith,
+    stepped-more (c .before .before .loop .inv .1 .1) (omega arith)
+        (less-is _ _ _ (omega arith) (omega arith) (c .wrapping-sub-u64 .ensures)),
+  ),
+)
 
 returns : tie.Need-returns Inv-loop μ-loop
 returns c = stepped-all (c .before .loop .inv .1 .1) (omega arith)

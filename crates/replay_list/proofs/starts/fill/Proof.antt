@@ -17,7 +17,7 @@ filled-put : {f : ℕ → ℤ} {n i : ℕ} {l m : List ℤ} (v : ℤ) → Filled
 filled-put v F h e q = rw q (filled-more v F h e)
 
 abbrev Inv-loop : tie.InvT-loop
-Inv-loop memory₀ first step n₀ i₀ memory n i = 
+Inv-loop memory₀ first step n₀ i₀ memory n i =
     (i ≤ length memory₀) × (Stepped (λ _ m. (m + step) % 18446744073709551616) first i n
     × Filled (pos 0) (λ k. stampOf (numberAt first step k)) (length memory₀) i memory)
 
@@ -41,9 +41,13 @@ loop-less c = search needs
 
 loop-again : tie.Need-loop-again Inv-loop μ-loop
 loop-again c =
-    let t = c .before .before .before .before .before in
-    (omega arith, (stepped-more (t .loop .inv .1 .0) refl (c .wrapping-add-u64 .ensures),
-    filled-put _ (t .loop .inv .1 .1) (omega arith) (ap stampOf (t .loop .inv .1 .0 .at)) (c .before .before .put .ensures)))
+    let t = c .before .before .before .before .before in (
+      omega arith,
+      (
+        stepped-more (t .loop .inv .1 .0) refl (c .wrapping-add-u64 .ensures),
+        filled-put _ (t .loop .inv .1 .1) (omega arith) (ap stampOf (t .loop .inv .1 .0 .at)) (c .before .before .put .ensures),
+      ),
+    )
 
 same-length : tie.Need-same-length Inv-loop μ-loop
 same-length c = search needs
