@@ -1,3 +1,4 @@
 pub mod Numbers
 pub mod Fill
 pub mod Starts
+pub mod Input

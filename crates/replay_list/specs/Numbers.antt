@@ -4,6 +4,7 @@ use Prim.Native.Nat.{ℕ, _+_, _-_, _*_, _/_, _%_}
 use lib.IntN.{ℤ, pos, _-ℤ_}
 use lib.ListN.{getD}
 use Rattle.laws.specs.Steps.{steps}
+use Rattle.timestamp.specs.Stamps.{distance, least}
 
 -- n without its least byte, and b as the greatest
 abbrev pub pushedOf : (n b : ℕ) → ℕ
@@ -20,3 +21,7 @@ stampOf n = pos n -ℤ pos 9223372036854775808
 -- a less b, around 2^64
 abbrev pub lessOf : (a b : ℕ) → ℕ
 lessOf a b = (a + (18446744073709551616 - b)) % 18446744073709551616
+
+-- the number of a stamp, which `stampOf` takes to it: how far it is past -2^63
+abbrev pub raisedOf : ℤ → ℕ
+raisedOf t = distance t least

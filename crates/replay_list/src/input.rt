@@ -1,7 +1,8 @@
 // The operation that a record of 32 bytes describes: its kind, its stamps, what it is lent and its fault.
 ghost use mathlib.Core.Path.{_≡_};
 ghost use Prim.Native.Nat.{_<_, _≤_};
-ghost use lib.ListN.{length};
+ghost use lib.ListN.{length, getD};
+ghost use Rattle.replay_list.specs.Input.{placeOf, kindOf, lentOf, givenOf, faultyOf, movedBy, movedOf, brokenOf, endList, aimedOf, otherOf, placeGiven};
 use crate::numbers;
 use cut_list::CutList;
 
@@ -18,7 +19,8 @@ const ENDS: [u64; 8] = [
 
 // A place of the memory: one of the first 16, or any of the first 512.
 fn place(a: u8, b: u8) -> usize
-    ensures { λ r. ⌜ r < 512 ⌝ }
+    ensures { λ n. ⌜ n ≡ placeOf a b ⌝ }
+    ensures { λ n. ⌜ n < 512 ⌝ }
 {
     if b % 2 == 0 {
         return numbers::size_of(a) % 16;
@@ -26,7 +28,9 @@ fn place(a: u8, b: u8) -> usize
     2 * numbers::size_of(a) + numbers::size_of(b) / 2 % 2
 }
 
-fn moved_by(minimum: u64, how: u8, by: u8) -> u64 {
+fn moved_by(minimum: u64, how: u8, by: u8) -> u64
+    ensures { λ n. ⌜ n ≡ movedBy minimum how by ⌝ }
+{
     if how == 3 {
         return 1;
     }
@@ -34,7 +38,7 @@ fn moved_by(minimum: u64, how: u8, by: u8) -> u64 {
         return minimum;
     }
     if how == 5 {
-        return std::num::wrapping_sub_u64(minimum, 1);
+        return numbers::less(minimum, 1);
     }
     if how == 6 {
         return minimum / 2;
@@ -43,20 +47,30 @@ fn moved_by(minimum: u64, how: u8, by: u8) -> u64 {
 }
 
 // A number that is moved by the minimum, or nearly so, or by half of it, or by a little.
-fn moved(n: u64, minimum: u64, how: u8, by: u8) -> u64 {
+fn moved(n: u64, minimum: u64, how: u8, by: u8) -> u64
+    ensures { λ m. ⌜ m ≡ movedOf n minimum how by ⌝ }
+{
     if how <= 5 {
         return n;
     }
     if how % 2 == 0 {
         return std::num::wrapping_add_u64(n, moved_by(minimum, how / 2, by));
     }
-    std::num::wrapping_sub_u64(n, moved_by(minimum, how / 2, by))
+    numbers::less(n, moved_by(minimum, how / 2, by))
+}
+
+fn end(i: usize) -> u64
+    requires { ⌜ i < 8 ⌝ }
+    ensures { λ n. ⌜ n ≡ getD endList i 0 ⌝ }
+{
+    ENDS[i]
 }
 
 // The number of the stamp that twelve bytes of a record describe.
 pub fn aimed(r: &[u8; 32], at: usize, fills: bool, minimum: u64, memory: &[i64]) -> u64
     requires { ⌜ length (now memory) ≡ 600 ⌝ }
     requires { ⌜ at ≤ 20 ⌝ }
+    ensures { λ n. ⌜ n ≡ aimedOf (now (r .entry)) at fills minimum (now (memory .entry)) ⌝ }
 {
     if fills & (64 <= r[at]) {
         return numbers::wide(r, at + 4);
@@ -67,7 +81,7 @@ pub fn aimed(r: &[u8; 32], at: usize, fills: bool, minimum: u64, memory: &[i64])
         return moved(n, minimum, r[at + 3] % 16, r[at + 4]);
     }
     if kind <= 11 {
-        return ENDS[(r[at + 1] % 8) as usize];
+        return end((r[at + 1] % 8) as usize);
     }
     if kind <= 13 {
         return 9223372036854773760
@@ -80,6 +94,7 @@ pub fn aimed(r: &[u8; 32], at: usize, fills: bool, minimum: u64, memory: &[i64])
 // The other end of a span.
 pub fn other(r: &[u8; 32], ts: u64, fills: bool, minimum: u64, memory: &[i64]) -> u64
     requires { ⌜ length (now memory) ≡ 600 ⌝ }
+    ensures { λ n. ⌜ n ≡ otherOf (now (r .entry)) ts fills minimum (now (memory .entry)) ⌝ }
 {
     if r[31] % 8 == 0 {
         return ts;
@@ -96,7 +111,9 @@ pub enum Kind {
     Clip,
 }
 
-pub fn kind_of(r: &[u8; 32], fills: bool) -> Kind {
+pub fn kind_of(r: &[u8; 32], fills: bool) -> Kind
+    ensures { λ n. ⌜ n ≡ kindOf (now (r .entry)) fills ⌝ }
+{
     if fills & (32 <= r[0]) {
         return Kind::Add;
     }
@@ -124,7 +141,8 @@ pub fn kind_of(r: &[u8; 32], fills: bool) -> Kind {
 
 // How many places an operation is lent.
 pub fn lent(r: &[u8; 32]) -> usize
-    ensures { λ r. ⌜ r ≤ 600 ⌝ }
+    ensures { λ n. ⌜ n ≡ lentOf (now (r .entry)) ⌝ }
+    ensures { λ n. ⌜ n ≤ 600 ⌝ }
 {
     let fault = r[3] % 64;
     if fault == 2 {
@@ -143,7 +161,9 @@ pub fn lent(r: &[u8; 32]) -> usize
 }
 
 // The record that an operation is handed, at times with a fault.
-pub fn given(r: &[u8; 32], list: CutList) -> CutList {
+pub fn given(r: &[u8; 32], list: CutList) -> CutList
+    ensures { λ n. ⌜ n ≡ givenOf (now (r .entry)) list ⌝ }
+{
     let fault = r[3] % 64;
     if fault == 0 {
         return CutList {
@@ -173,23 +193,26 @@ pub fn given(r: &[u8; 32], list: CutList) -> CutList {
 }
 
 // What stands where a stamp should: the number of the one before, one before that, or one that is too close to it.
-fn broken(before: u64, minimum: u64, how: u8, by: u8) -> u64 {
+fn broken(before: u64, minimum: u64, how: u8, by: u8) -> u64
+    ensures { λ n. ⌜ n ≡ brokenOf before minimum how by ⌝ }
+{
     if how == 0 {
         return before;
     }
     if how == 1 {
-        return std::num::wrapping_sub_u64(before, numbers::long_of(by) + 1);
+        return numbers::less(before, numbers::long_of(by) + 1);
     }
     if how == 2 {
         return std::num::wrapping_add_u64(before, minimum / 2);
     }
-    std::num::wrapping_sub_u64(std::num::wrapping_add_u64(before, minimum), 1)
+    numbers::less(std::num::wrapping_add_u64(before, minimum), 1)
 }
 
 // A place that has one before it.
 pub fn faulty_place(r: &[u8; 32]) -> usize
-    ensures { λ r. ⌜ r < 512 ⌝ }
-    ensures { λ r. ⌜ 0 < r ⌝ }
+    ensures { λ n. ⌜ n ≡ faultyOf (now (r .entry)) ⌝ }
+    ensures { λ n. ⌜ n < 512 ⌝ }
+    ensures { λ n. ⌜ 0 < n ⌝ }
 {
     place(r[6], r[7]) % 511 + 1
 }
@@ -197,6 +220,7 @@ pub fn faulty_place(r: &[u8; 32]) -> usize
 // The faulty place: as it is, or with a fault.
 pub fn place_given(r: &[u8; 32], minimum: u64, memory: &[i64]) -> u64
     requires { ⌜ length (now memory) ≡ 600 ⌝ }
+    ensures { λ n. ⌜ n ≡ placeGiven (now (r .entry)) minimum (now (memory .entry)) ⌝ }
 {
     let p = faulty_place(r);
     if r[3] % 64 == 6 {

@@ -3,8 +3,7 @@ ghost use mathlib.Core.Path.{_≡_};
 ghost use Prim.Native.Nat.{_<_, _≤_};
 ghost use lib.IntN.{pos};
 ghost use lib.ListN.{length, getD, set};
-ghost use Rattle.timestamp.specs.Stamps.{distance, least};
-ghost use Rattle.replay_list.specs.Numbers.{pushedOf, wideOf, stampOf};
+ghost use Rattle.replay_list.specs.Numbers.{pushedOf, wideOf, lessOf, stampOf, raisedOf};
 use timestamp::Timestamp;
 
 pub fn long_of(b: u8) -> u64
@@ -19,6 +18,13 @@ pub fn size_of(b: u8) -> usize
     ensures { λ r. ⌜ r < 256 ⌝ }
 {
     b as usize
+}
+
+// a less b, around 2^64.
+pub fn less(a: u64, b: u64) -> u64
+    ensures { λ n. ⌜ n ≡ lessOf a b ⌝ }
+{
+    std::num::wrapping_sub_u64(a, b)
 }
 
 // n without its least byte, and b as the greatest.
@@ -54,7 +60,7 @@ pub fn stamp(n: u64) -> Timestamp
 
 // The number that `stamp` takes to ts.
 pub fn raised(ts: Timestamp) -> u64
-    ensures { λ r. ⌜ r ≡ distance (ts .micros) least ⌝ }
+    ensures { λ r. ⌜ r ≡ raisedOf (ts .micros) ⌝ }
 {
     let earliest = Timestamp {
         micros: -9223372036854775808,
@@ -65,7 +71,7 @@ pub fn raised(ts: Timestamp) -> u64
 // The number of the stamp at a place.
 pub fn raised_at(memory: &[i64], i: usize) -> u64
     requires { ⌜ i < length (now memory) ⌝ }
-    ensures { λ r. ⌜ r ≡ distance (getD (now (memory .entry)) i (pos 0)) least ⌝ }
+    ensures { λ r. ⌜ r ≡ raisedOf (getD (now (memory .entry)) i (pos 0)) ⌝ }
 {
     raised(Timestamp { micros: memory[i] })
 }

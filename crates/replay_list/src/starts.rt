@@ -124,7 +124,7 @@ fn back(step: u64, n: usize) -> u64
     let mut first: u64 = 18446744073709551615;
     let mut i: usize = 1;
     while i < n {
-        first = std::num::wrapping_sub_u64(first, step);
+        first = numbers::less(first, step);
         i += 1;
     }
     first

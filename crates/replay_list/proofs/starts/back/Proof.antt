@@ -1,16 +1,12 @@
 -- `starts::back` meets its contract: i - 1 steps at i.
-use mathlib.Core.Path.{_≡_, refl}
-use Prim.Native.Nat.{ℕ, _<_, _≤_, _+_, _-_, _%_}
+use mathlib.Core.Path.{refl}
+use Prim.Native.Nat.{_<_, _≤_, _-_}
 use native.Mathlib.Omega.{arith}
 use borrow.Author.Needs.{needs}
 use Rattle.laws.proofs.Stepped.{Stepped, stepped-none, stepped-more, stepped-all}
-use Rattle.replay_list.specs.Fill.{}
 use Rattle.replay_list.specs.Numbers.{lessOf}
 use Rattle.replay_list.proofs.starts.back.Statement.{statement}
 use Rattle.replay_list.proofs.starts.back.Tie as tie
-
-less-is : (r a b : ℕ) → r < 18446744073709551616 → b < 18446744073709551616 → (r + b) % 18446744073709551616 ≡ a → r ≡ lessOf a b
-less-is r a b p q e = omega arith
 
 abbrev Inv-loop : tie.InvT-loop
 Inv-loop step n first₀ i₀ first i = (0 < i) × ((i - 1 ≤ n - 1) × Stepped (λ _ m. lessOf m step) 18446744073709551615 (i - 1) first)
@@ -21,8 +17,8 @@ abbrev μ-loop : tie.MeasureT-loop
 loop-holds : tie.Need-loop-holds Inv-loop μ-loop
 loop-holds c = (omega arith, (omega arith, stepped-none refl))
 
-wrapping-sub-u64-requires : tie.Need-wrapping-sub-u64-requires Inv-loop μ-loop
-wrapping-sub-u64-requires c κs = search needs
+less-requires : tie.Need-less-requires Inv-loop μ-loop
+less-requires c κs = search needs
 
 add-i : tie.Need-add-i Inv-loop μ-loop
 add-i c = search needs
@@ -35,8 +31,7 @@ loop-again c = (
   omega arith,
   (
     omega arith,
-    stepped-more (c .before .before .loop .inv .1 .1) (omega arith)
-        (less-is _ _ _ (omega arith) (omega arith) (c .wrapping-sub-u64 .ensures)),
+    stepped-more (c .before .before .loop .inv .1 .1) (omega arith) (c .less .ensures),
   ),
 )
 
@@ -50,7 +45,7 @@ back-spec =
     Inv-loop
     μ-loop
     loop-holds
-    wrapping-sub-u64-requires
+    less-requires
     add-i
     loop-less
     loop-again
