@@ -1,5 +1,5 @@
--- The first memory of a list, by the number of its first place and the step from place to place (compare/README.md): a part of the comparison
--- with the Rust (RULES 14.3). Numbers are of 64 bits, and past 2^64 - 1 they go on from 0.
+-- The first memory of a list, by the number of its first place and the step from place to place (compare/README.md, "Lists of operations").
+-- Numbers are of 64 bits, and past 2^64 - 1 they go on from 0.
 use mathlib.Core.List.{List}
 use Prim.Native.Nat.{ℕ, _+_, _-_, _%_}
 use lib.IntN.{ℤ}

@@ -1,4 +1,4 @@
--- What the bytes of a record of 32 bytes say of an operation (compare/README.md): a part of the comparison with the Rust (RULES 14.3).
+-- What the bytes of a record of 32 bytes say of an operation (compare/README.md, "Lists of operations").
 -- r[k] is byte k of the record.
 use mathlib.Core.Bool.{Bool, cond, _&&_}
 use mathlib.Core.List.{List, [], _∷_}
@@ -7,6 +7,7 @@ use lib.Dec.{eqb, leb}
 use lib.IntN.{ℤ, pos}
 use lib.ListN.{getD}
 use Rattle.cut_list.specs.declared.CutList.{CutList}
+use Rattle.cut_list.specs.Record.{cutList}
 use Rattle.replay_list.specs.Numbers.{wideOf, lessOf, raisedOf}
 use Rattle.replay_list.specs.declared.input.Kind.{Kind}
 use Rattle.replay_list.specs.declared.input.Kind.the-variants.{Add, Remove, Empty, Nearest, Span, Clip}
@@ -37,24 +38,20 @@ lentOf r =
     511
     (cond (eqb (getD r 3 0 % 64) 3) (getD r 4 0) (cond (leb (getD r 2 0 % 8) 3) 512 (cond (leb (getD r 2 0 % 8) 5) 513 600)))
 
--- a record of a list by its two numbers
-abbrev pub listBy : (minimum count : ℕ) → CutList
-listBy minimum n = record { «min_duration» = minimum; count = n }
-
 -- the record that an operation is handed, by the fault r[3] % 64: a count of 513 for 0, one near 2^64 for 1, a minimum of one more for 4, a count
 -- of one more for 5, otherwise as it is
 unfoldable pub givenOf : List ℕ → CutList → CutList
 givenOf r list =
     cond
     (eqb (getD r 3 0 % 64) 0)
-    (listBy (list .«min_duration») 513)
+    (cutList (list .«min_duration») 513)
     (cond
     (eqb (getD r 3 0 % 64) 1)
-    (listBy (list .«min_duration») (18446744073709551615 - getD r 4 0))
+    (cutList (list .«min_duration») (18446744073709551615 - getD r 4 0))
     (cond
     (eqb (getD r 3 0 % 64) 4)
-    (listBy ((list .«min_duration» + 1) % 18446744073709551616) (list .count))
-    (cond (eqb (getD r 3 0 % 64) 5) (listBy (list .«min_duration») ((list .count + 1) % 18446744073709551616)) list)))
+    (cutList ((list .«min_duration» + 1) % 18446744073709551616) (list .count))
+    (cond (eqb (getD r 3 0 % 64) 5) (cutList (list .«min_duration») ((list .count + 1) % 18446744073709551616)) list)))
 
 -- the faulty place: one that has one before it, by r[6] and r[7]
 unfoldable pub faultyOf : List ℕ → ℕ

@@ -1,4 +1,4 @@
--- Numbers by the bytes of a record, and stamps by numbers of 64 bits (compare/README.md): a part of the comparison with the Rust (RULES 14.3).
+-- Numbers by the bytes of a record, and stamps by numbers of 64 bits (compare/README.md, "Lists of operations").
 use mathlib.Core.List.{List}
 use Prim.Native.Nat.{ℕ, _+_, _-_, _*_, _/_, _%_}
 use lib.IntN.{ℤ, pos, _-ℤ_}
