@@ -10,7 +10,7 @@ use scenesdetect::{adaptive, content};
 use std::fmt::Write;
 
 /// The programs by name, with what each prints.
-pub fn outputs() -> [(&'static str, String); 7] {
+pub fn outputs() -> [(&'static str, String); 8] {
     [
         ("replay_hsv", pixels()),
         ("replay_planes", planes()),
@@ -19,6 +19,7 @@ pub fn outputs() -> [(&'static str, String); 7] {
         ("replay_content", batches::<content::Detector>(|c| c % 24 + 1)),
         ("replay_adaptive", adaptive()),
         ("replay_list", crate::replay_list::lines()),
+        ("marks", marks_table()),
     ]
 }
 
@@ -206,6 +207,16 @@ fn marks() -> u32 {
         digest.bytes(&[low, high]);
     }
     digest.value()
+}
+
+/// The marks of each median as text: a header, then a row for each.
+fn marks_table() -> String {
+    let mut out = String::from("median,low,high\n");
+    for median in 0..=255 {
+        let (low, high) = rust::marks(median);
+        writeln!(out, "{median},{low},{high}").unwrap();
+    }
+    out
 }
 
 fn windows() -> u32 {

@@ -6,6 +6,8 @@ ghost use Rattle.canny_marks.specs.Median.{count, medianOf};
 ghost use Rattle.canny_marks.specs.Marks.{lowMark, highMark};
 ghost use Rattle.canny_marks.specs.Kernel.{autoKernelSize};
 
+mod table;
+
 // How many bytes there are of each value.
 fn histogram(buf: &[u8]) -> [usize; 256]
     ensures { λ r. ⌜ r ≡ tabulate 256 (λ v. count (λ b. eqb b v) (now (buf .entry))) ⌝ }
@@ -38,25 +40,20 @@ pub fn median_u8(buf: &[u8]) -> u8
     255
 }
 
-// The low mark of a median m: 0 for m = 0, otherwise floor((2m - 1) / 3) (RULES 5.4).
+// The low mark of a median (RULES 5.4).
 pub fn low_threshold(median: u8) -> u8
     ensures { λ r. ⌜ r ≡ lowMark median ⌝ }
 {
-    if median == 0 {
-        return 0;
-    }
-    ((2 * (median as u32) - 1) / 3) as u8
+    let marks = table::low_marks();
+    marks[median as usize]
 }
 
-// The high mark of a median m: min(255, floor(4m / 3)) (RULES 5.5).
+// The high mark of a median (RULES 5.5).
 pub fn high_threshold(median: u8) -> u8
     ensures { λ r. ⌜ r ≡ highMark median ⌝ }
 {
-    let high = 4 * (median as u32) / 3;
-    if high < 255 {
-        return high as u8;
-    }
-    255
+    let marks = table::high_marks();
+    marks[median as usize]
 }
 
 // The side k of the window for a frame of this size, where no k is set (RULES 5.13).

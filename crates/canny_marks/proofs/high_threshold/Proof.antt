@@ -1,23 +1,18 @@
--- `canny_marks::high_threshold` meets its contract. Assumes nothing.
+-- `canny_marks::high_threshold` meets its contract: the median's entry of the table. Assumes nothing.
 use borrow.Author.Needs.{needs}
-use native.Mathlib.Omega.{arith}
+use Rattle.laws.proofs.Tab.{getD-tabulate}
 use Rattle.canny_marks.specs.Marks.{highMark}
 use Rattle.canny_marks.proofs.high_threshold.Statement.{statement}
 use Rattle.canny_marks.proofs.high_threshold.Tie as tie
 
-mul-high : tie.Need-mul-high
-mul-high c = search needs
+high-marks-requires : tie.Need-high-marks-requires
+high-marks-requires c κs = search needs
 
-cast-result : tie.Need-cast-result
-cast-result c = search needs
+array-read-result : tie.Need-array-read-result
+array-read-result c = search needs
 
 returns : tie.Need-returns
-unfolding highMark
-returns c = omega arith
-
-returns-2 : tie.Need-returns-2
-unfolding highMark
-returns-2 c = omega arith
+returns c = rw (c .high-marks .ensures) (getD-tabulate 256 highMark 0 _ (search needs))
 
 pub high-threshold-spec : {M : Type 1} → statement M
-high-threshold-spec = tie.close (tie.spec mul-high cast-result returns returns-2)
+high-threshold-spec = tie.close (tie.spec high-marks-requires array-read-result returns)

@@ -1,0 +1,2 @@
+-- What the program `marks` prints.
+pub mod Text
