@@ -55,7 +55,7 @@ fn stored(root: &Path, program: &str) -> PathBuf {
     root.join("crates").join(program).join("stdout")
 }
 
-/// The oracle's outputs: of the replay programs, and of the session's programs on their stored inputs. `session_cases`
+/// The oracle's outputs: of the replay programs and `marks`, and of the session's programs on their stored inputs. `session_cases`
 /// writes one line more, about chunks of 1 to 300 bytes.
 fn outputs(root: &Path) -> Vec<(&'static str, String)> {
     let session = |program: &str| {

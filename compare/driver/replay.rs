@@ -1,4 +1,4 @@
-//! What the replay programs must print, worked out by the oracle, or by the rules where the Rust has no counterpart:
+//! What the replay programs and `marks` must print, worked out by the oracle, or by the rules where the Rust has no counterpart:
 //! their stored `stdout`. README.md states the batches in words.
 use crate::generator::{Digest, Generator};
 use crate::lists::{self, Listed};

@@ -79,10 +79,10 @@ pub fn print(count: usize) {
             }
         }),
     );
-    row("nearest", best(N, |_| (0..N).for_each(|_| drop(black_box(sorted.nearest(black_box(ts)))))), {
-        best(N, |_| (0..N).for_each(|_| drop(black_box(list.nearest(black_box(ts))))))
+    row("nearest", best(N, |_| (0..N).for_each(|_| _ = black_box(sorted.nearest(black_box(ts))))), {
+        best(N, |_| (0..N).for_each(|_| _ = black_box(list.nearest(black_box(ts)))))
     });
-    row("clip", best(N, |_| (0..N).for_each(|_| drop(black_box(sorted.clip(black_box(ts)))))), {
-        best(N, |_| (0..N).for_each(|_| drop(black_box(list.clip(black_box(ts))))))
+    row("clip", best(N, |_| (0..N).for_each(|_| _ = black_box(sorted.clip(black_box(ts))))), {
+        best(N, |_| (0..N).for_each(|_| _ = black_box(list.clip(black_box(ts)))))
     });
 }

@@ -1,9 +1,9 @@
-// The marks of each median, from 0 to 255, as two printed tables. A line has sixteen marks, after the median of its first one.
+// The marks of the medians 0 to 255, as two tables for people to read: a line has sixteen marks, after the median of the first.
 ghost use mathlib.Core.Path.{_≡_};
 ghost use Rattle.laws.specs.Lists.{tabulate};
 ghost use Rattle.canny_marks.specs.Marks.{lowMark, highMark};
 
-const LOW: [u8; 256] = [
+const LOW_MARKS: [u8; 256] = [
     /*   0 */   0,   0,   1,   1,   2,   3,   3,   4,   5,   5,   6,   7,   7,   8,   9,   9,
     /*  16 */  10,  11,  11,  12,  13,  13,  14,  15,  15,  16,  17,  17,  18,  19,  19,  20,
     /*  32 */  21,  21,  22,  23,  23,  24,  25,  25,  26,  27,  27,  28,  29,  29,  30,  31,
@@ -22,7 +22,7 @@ const LOW: [u8; 256] = [
     /* 240 */ 159, 160, 161, 161, 162, 163, 163, 164, 165, 165, 166, 167, 167, 168, 169, 169,
 ];
 
-const HIGH: [u8; 256] = [
+const HIGH_MARKS: [u8; 256] = [
     /*   0 */   0,   1,   2,   4,   5,   6,   8,   9,  10,  12,  13,  14,  16,  17,  18,  20,
     /*  16 */  21,  22,  24,  25,  26,  28,  29,  30,  32,  33,  34,  36,  37,  38,  40,  41,
     /*  32 */  42,  44,  45,  46,  48,  49,  50,  52,  53,  54,  56,  57,  58,  60,  61,  62,
@@ -41,16 +41,16 @@ const HIGH: [u8; 256] = [
     /* 240 */ 255, 255, 255, 255, 255, 255, 255, 255, 255, 255, 255, 255, 255, 255, 255, 255,
 ];
 
-// The low marks: the table as a whole is the rule (RULES 5.4).
+// The low marks. The table as a whole is the list of the rule's marks (RULES 5.4).
 pub fn low_marks() -> [u8; 256]
     ensures { λ r. ⌜ r ≡ tabulate 256 lowMark ⌝ }
 {
-    LOW
+    LOW_MARKS
 }
 
-// The high marks: the table as a whole is the rule (RULES 5.5).
+// The high marks. The table as a whole is the list of the rule's marks (RULES 5.5).
 pub fn high_marks() -> [u8; 256]
     ensures { λ r. ⌜ r ≡ tabulate 256 highMark ⌝ }
 {
-    HIGH
+    HIGH_MARKS
 }

@@ -12,7 +12,7 @@ use Rattle.decimal.specs.Writing.{decimal}
 use Rattle.decimal.proofs.Lengths.{decimal-length, digits-short}
 use Rattle.decimal.proofs.Writes.{Wrote, wrote-next}
 use Rattle.canny_marks.specs.Marks.{lowMark, highMark}
-use Rattle.marks.specs.Text.{columns, rowText, rowsText, tableText}
+use Rattle.marks.specs.Text.{tableHeader, rowText, rowsText, tableText}
 
 -- a number and the byte after it
 pub cell-length : (n end : ℕ) → length (decimal n ++ (end ∷ [])) ≤ 21
@@ -58,19 +58,19 @@ rows-length zero h = omega arith
 rows-length (suc m) h = omega (arith, length-append (rowsText m) (rowText m), row-length m (omega arith), rows-length m (omega arith))
 
 -- the header at the start
-pub header-wrote : (out : List ℕ) {mid : List ℕ} {a : ℕ} → mid ≡ columns ++ drop 16 out → a ≡ 16 → Wrote out 0 columns mid a
+pub header-wrote : (out : List ℕ) {mid : List ℕ} {a : ℕ} → mid ≡ tableHeader ++ drop 16 out → a ≡ 16 → Wrote out 0 tableHeader mid a
 unfolding placed
 header-wrote out e k = (e, k)
 
 -- the header, and the rows after it
-pub table-wrote : (out : List ℕ) {mid after : List ℕ} {a r : ℕ} → Wrote out 0 columns mid a → Wrote mid a (rowsText 256) after r
+pub table-wrote : (out : List ℕ) {mid after : List ℕ} {a r : ℕ} → Wrote out 0 tableHeader mid a → Wrote mid a (rowsText 256) after r
     → (after ≡ placed out 0 tableText) × (r ≡ length tableText)
 unfolding tableText
 table-wrote out first next =
-    let w = wrote-next out _ _ 0 _ _ columns (rowsText 256) (omega arith) first next in
+    let w = wrote-next out _ _ 0 _ _ tableHeader (rowsText 256) (omega arith) first next in
     (w .0, omega (arith, w .1))
 
 -- the room of `main` is enough
 pub table-length : length tableText ≤ 4096
 unfolding tableText
-table-length = omega (arith, length-append columns (rowsText 256), rows-length 256 (omega arith))
+table-length = omega (arith, length-append tableHeader (rowsText 256), rows-length 256 (omega arith))

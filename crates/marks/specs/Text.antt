@@ -5,8 +5,8 @@ use Rattle.decimal.specs.Writing.{decimal}
 use Rattle.canny_marks.specs.Marks.{lowMark, highMark}
 
 -- `median,low,high` and a line feed
-abbrev pub columns : List ℕ
-columns = 109 ∷ 101 ∷ 100 ∷ 105 ∷ 97 ∷ 110 ∷ 44 ∷ 108 ∷ 111 ∷ 119 ∷ 44 ∷ 104 ∷ 105 ∷ 103 ∷ 104 ∷ 10 ∷ []
+abbrev pub tableHeader : List ℕ
+tableHeader = 109 ∷ 101 ∷ 100 ∷ 105 ∷ 97 ∷ 110 ∷ 44 ∷ 108 ∷ 111 ∷ 119 ∷ 44 ∷ 104 ∷ 105 ∷ 103 ∷ 104 ∷ 10 ∷ []
 
 -- a row: the median, its low and its high mark, in decimal and separated by commas, and a line feed
 unfoldable pub rowText : ℕ → List ℕ
@@ -19,4 +19,4 @@ rowsText (suc n) = rowsText n ++ rowText n
 
 -- the whole text
 unfoldable pub tableText : List ℕ
-tableText = columns ++ rowsText 256
+tableText = tableHeader ++ rowsText 256

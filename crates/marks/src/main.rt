@@ -8,10 +8,10 @@ ghost use Rattle.decimal.specs.Writing.{decimal};
 ghost use Rattle.marks.specs.Text.{rowText, rowsText, tableText};
 use libc::STDOUT_FILENO;
 
-// More than the text has: 16 bytes of the header, and at most 12 of each row.
-const ROOM: usize = 4096;
+// Room for the text: 16 bytes of the header and at most 12 of each row, and what a writer asks for after its place.
+const TABLE_ROOM: usize = 4096;
 
-// A number, and the byte that ends it.
+// A number, and the byte that ends it. `put_number` asks for 20 bytes, whatever the number.
 fn put_cell(out: &mut [u8], at: usize, n: u8, end: u8) -> usize
     requires { ⌜ at + 21 ≤ length (now out) ⌝ }
     ensures { λ r. ⌜ (now (out .exit) ≡ placed (now (out .entry)) at (decimal n ++ (end ∷ []))) × (r ≡ at + length (decimal n ++ (end ∷ []))) ⌝ }
@@ -20,7 +20,7 @@ fn put_cell(out: &mut [u8], at: usize, n: u8, end: u8) -> usize
     decimal::put_byte(out, e, end)
 }
 
-// The row of a median.
+// The row of a median: three cells, so three times their room.
 fn put_row(out: &mut [u8], at: usize, median: u8) -> usize
     requires { ⌜ at + 63 ≤ length (now out) ⌝ }
     ensures { λ r. ⌜ (now (out .exit) ≡ placed (now (out .entry)) at (rowText median)) × (r ≡ at + length (rowText median)) ⌝ }
@@ -32,9 +32,9 @@ fn put_row(out: &mut [u8], at: usize, median: u8) -> usize
     put_cell(out, b, high, b'\n')
 }
 
-// The rows of all medians.
+// The rows of all medians. The last one starts after at most 255 × 12 bytes.
 fn put_rows(out: &mut [u8], at: usize) -> usize
-    requires { ⌜ at + 3135 ≤ length (now out) ⌝ }
+    requires { ⌜ at + 3123 ≤ length (now out) ⌝ }
     ensures { λ r. ⌜ (now (out .exit) ≡ placed (now (out .entry)) at (rowsText 256)) × (r ≡ at + length (rowsText 256)) ⌝ }
 {
     let mut e = at;
@@ -56,7 +56,7 @@ fn put_table(out: &mut [u8]) -> usize
 }
 
 fn main() {
-    let mut out = [0u8; ROOM];
+    let mut out = [0u8; TABLE_ROOM];
     let n = put_table(&mut out);
     if !io::write_all(STDOUT_FILENO, &out[..n]) {
         os::fail(b"standard output");
