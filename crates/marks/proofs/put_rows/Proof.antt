@@ -4,7 +4,7 @@ use Prim.Native.Nat.{_-_, _≤_}
 use native.Mathlib.Omega.{arith}
 use lib.ListN.{length}
 use Rattle.decimal.proofs.Writes.{Wrote, placed-none, wrote-next}
-use Rattle.marks.specs.Text.{rowText, rowsText}
+use Rattle.marks.specs.Text.{rowsText}
 use Rattle.marks.proofs.Rows.{rows-next, rows-length}
 use Rattle.marks.proofs.put_rows.Statement.{statement}
 use Rattle.marks.proofs.put_rows.Tie as tie
