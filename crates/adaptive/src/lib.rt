@@ -1,6 +1,8 @@
 // The adaptive detector without its pixels (RULES 9): options, the state record, settings, the step of an accepted frame, `clear` and the
 // readers. Values go in and come out. The inner detector's settings are made from the outer ones and not held (RULES 9.2), and of its state
 // only the stream is kept: its filter cannot be observed, with an infinite threshold.
+#![tactic(auto)]
+
 ghost use Rattle.std.specs.Prelude.{◌≡◌, ◌||◌};
 ghost use Rattle.std.specs.Float.Ieee.{is_nan};
 ghost use Rattle.adaptive.specs.Options.{options, defaults, window_options, picture_options, options_refusal};
@@ -13,7 +15,7 @@ use stream::{Stream, Sums};
 use timestamp::{MaybeTimestamp, Timestamp};
 use window::{Window, WindowOptions, WindowStep};
 
-#[derive(Drop)]
+#[derive(Clone, Copy)]
 pub struct Options {
     pub adaptive_threshold: f64,
     // The least distance from one cut to the next, in microseconds.
@@ -28,7 +30,7 @@ pub struct Options {
 }
 
 // What one call hands to the next.
-#[derive(Drop)]
+#[derive(Clone, Copy)]
 pub struct Detector {
     pub options: Options,
     pub stream: Stream,
@@ -36,7 +38,7 @@ pub struct Detector {
 }
 
 // What a settings call returns: a refusal's number or 0, and a fresh state.
-#[derive(Drop)]
+#[derive(Clone, Copy)]
 pub struct Settled {
     pub number: u32,
     pub detector: Detector,
@@ -45,7 +47,7 @@ pub struct Settled {
 // What a frame call or `clear` returns besides the memory it writes: a refusal's number or 0, the state, the cut or none, the score or
 // none, the four components, which are 0.0 where there is no score, and the whole sums and the count that they come from, which are 0
 // there.
-#[derive(Drop)]
+#[derive(Clone, Copy)]
 pub struct Answer {
     pub number: u32,
     pub detector: Detector,

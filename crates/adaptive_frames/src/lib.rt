@@ -1,6 +1,8 @@
 // The adaptive detector's frame calls (RULES 9.2, 9.4). Any frame, state record and lent memory is taken: what is wrong with it is answered
 // by a number (RULES 10.5). The memory is lent: a store of the last frame's planes, which is to be handed to the next call as this one left
 // it, scratch and magnitudes (RULES 12.1, 12.2). What a frame is to a detector is in the crate `frame_call`; its step is added here.
+#![tactic(auto)]
+
 ghost use Rattle.std.specs.Prelude.{◌≡◌};
 ghost use Rattle.stream.specs.Stream.{FromSums};
 ghost use Rattle.frame_call.specs.Call.{luma, bgr, hsv, memory, answered_by, Called};

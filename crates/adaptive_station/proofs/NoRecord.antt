@@ -15,7 +15,7 @@ use Rattle.adaptive.specs.State.{bad_state, refused_answer, cleared_answer}
 use Rattle.adaptive.specs.Step.{stepped, called}
 use Rattle.adaptive_words.specs.Record.{is_adaptive, adaptive_of}
 use Rattle.adaptive_words.proofs.Refused.{no-record-bad}
-use Rattle.station_answer.specs.Contracts.{FrameContract, ClearContract}
+use Rattle.station_answer.specs.Promises.{FrameContract, ClearContract}
 use Rattle.adaptive_station.specs.Station.{adaptive_layout, adaptive_call}
 
 -- the number of an answer to a frame, and the number of a frame at a bad state

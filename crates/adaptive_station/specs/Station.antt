@@ -6,7 +6,7 @@ use Rattle.frame_call.specs.Call.{Call}
 use Rattle.frame_call.specs.Call.{Outcome}
 use Rattle.adaptive.specs.Step.{called}
 use Rattle.adaptive_words.specs.Record.{adaptive_words, adaptive_of}
-use Rattle.station_answer.specs.Contracts.{Layout, Brought, Started}
+use Rattle.station_answer.specs.Promises.{Layout, Brought, Started}
 
 -- the record of the adaptive detector in words, and its weights
 abbrev pub adaptive_layout : Layout Detector

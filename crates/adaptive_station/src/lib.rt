@@ -1,5 +1,7 @@
 // The adaptive detector's calls on lent words. Its state is 288 words, as the crate `adaptive_words` lays them out, its answer 13; what is
 // not a record is refused by 15.
+#![tactic(auto)]
+
 ghost use Rattle.std.specs.Prelude.{◌≡◌};
 ghost use Rattle.score.specs.Scores.{components as components·of};
 ghost use Rattle.words.specs.Choices.{score_tag, components_tag};
@@ -10,7 +12,7 @@ ghost use Rattle.frame_call.specs.Call.{luma, bgr, hsv, clear, memory};
 ghost use Rattle.adaptive_words.specs.Record.{adaptive_words, adaptive_of};
 ghost use Rattle.station_answer.specs.Answer.{stamp, answer_words, ReadAs, score_shown, component_at};
 ghost use Rattle.station_answer.specs.Settings.{kernel_set, flag_set};
-ghost use Rattle.station_answer.specs.Contracts.{FrameContract, ClearContract, SettingsContract};
+ghost use Rattle.station_answer.specs.Promises.{FrameContract, ClearContract, SettingsContract};
 ghost use Rattle.adaptive_station.specs.Station.{adaptive_layout, adaptive_call, started_by};
 
 use adaptive::{Answer, Options, Settled};

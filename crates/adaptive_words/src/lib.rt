@@ -1,5 +1,7 @@
 // The adaptive detector's record in 288 words: a version, then each field, and the window's places. Any 288 words are read: what is not a
 // record is read as one that every call refuses by 15.
+#![tactic(auto)]
+
 ghost use Rattle.std.specs.Prelude.{◌≡◌, true, length};
 ghost use Rattle.adaptive_words.specs.Options.{options_words, is_options, options_of};
 ghost use Rattle.adaptive_words.specs.Window.{window_words, is_window, window_of, stamps_words, stamps_of, scores_words, scores_of};

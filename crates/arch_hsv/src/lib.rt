@@ -1,4 +1,6 @@
 // BGR bytes to hue, saturation and value, in whole numbers.
+#![tactic(auto)]
+
 ghost use Rattle.std.specs.Prelude.{◌≡◌, ℕ, ◌+◌, ◌*◌, ◌<◌, ◌≤◌, min, length};
 ghost use Rattle.arch_hsv.specs.Hsv.{rounded, value, delta, hsv_of, hsv_planes};
 ghost use Rattle.arch_hsv.specs.Rows.{of_pixel, row_stored};
@@ -8,7 +10,7 @@ ghost use Rattle.arch_hsv.specs.Reciprocals.{Reciprocals};
 mod table;
 
 // Hue in half degrees, at most 179; saturation and value to 255.
-#[derive(Drop)]
+#[derive(Clone, Copy)]
 pub struct Hsv {
     pub h: u8,
     pub s: u8,
@@ -71,7 +73,7 @@ fn hue(t: &[u32; 256], k: u16, d: u8) -> u8
 }
 
 // What hue and saturation are worked out from: V, D and the sixths.
-#[derive(Drop)]
+#[derive(Clone, Copy)]
 struct Measured {
     v: u8,
     d: u8,

@@ -1,11 +1,13 @@
 // Planes of bytes: rows of a strided plane packed, and how much two planes differ.
+#![tactic(auto)]
+
 ghost use Rattle.std.specs.Prelude.{◌≡◌, ℕ, ◌+◌, ◌*◌, ◌^◌, ◌<◌, ◌≤◌, length};
 ghost use Rattle.arch_planes.specs.Packed.{packed};
 ghost use Rattle.arch_planes.specs.Difference.{dist, sum_abs_diff, mean_of, mean_abs_diff};
 
 // How much two planes of bytes differ: the whole sum of the absolute differences, the number of pixels, and the mean, which is the sum
 // over that number by one division, 0.0 for no pixels.
-#[derive(Drop)]
+#[derive(Clone, Copy)]
 pub struct PlaneDifference {
     pub sum: u32,
     pub count: u32,

@@ -1,4 +1,6 @@
 // The Sobel operator over a plane of bytes, `sobel` of arch.rs.
+#![tactic(auto)]
+
 ghost use Rattle.std.specs.Prelude.{◌≡◌, ◌+◌, ◌*◌, ◌<◌, ◌≤◌, pos, nat_abs, length};
 ghost use Rattle.laws.specs.Lists.{tabulate};
 ghost use Rattle.arch_sobel.specs.Sobel.{px, smooth_col, smooth_row, grad_x, grad_y, sign_of, dir_of, mag_at, dir_at, sobel_mag, sobel_dir};
@@ -79,7 +81,7 @@ fn direction(gx: i32, gy: i32) -> u8
 }
 
 // What the two planes have at one place.
-#[derive(Drop)]
+#[derive(Clone, Copy)]
 struct Edge {
     mag: i32,
     dir: u8,

@@ -1,4 +1,6 @@
 // The edge plane of a luma plane: `compute_edges`.
+#![tactic(auto)]
+
 ghost use Rattle.std.specs.Prelude.{◌≡◌, ◌*◌, ◌≤◌, length};
 ghost use Rattle.canny.specs.Edges.{strong_plane, edge_plane};
 

@@ -1,4 +1,6 @@
 // Hysteresis: from a plane of weak (1) and strong (2) pixels to the plane of those that are strong after two rounds of sweeps.
+#![tactic(auto)]
+
 ghost use Rattle.std.specs.Prelude.{◌≡◌, ◌||◌, List, [], ◌∷◌, map, ℕ, ◌+◌, ◌-◌, ◌*◌, ◌<◌, ◌≤◌, eqb, length};
 ghost use Rattle.canny_hysteresis.specs.Sweeps.{upper, lower, visit, rising, falling, sweep_row, sweep, round, whitened, strong_pixels};
 

@@ -1,4 +1,6 @@
 // What the edges take from the luma plane as a whole: its median, the low and the high mark, and the side of the dilation's window.
+#![tactic(auto)]
+
 ghost use Rattle.std.specs.Prelude.{◌≡◌, eqb};
 ghost use Rattle.laws.specs.Lists.{tabulate};
 ghost use Rattle.canny_marks.specs.Median.{count, median_of};

@@ -1,4 +1,6 @@
 // Thinning and classes: from the magnitude and direction planes to the plane of pixels that are weak (1), strong (2) or neither (0).
+#![tactic(auto)]
+
 ghost use Rattle.std.specs.Prelude.{◌≡◌, cond, ◌+◌, ◌*◌, ◌<◌, ◌≤◌, length, get_or};
 ghost use Rattle.laws.specs.Lists.{tabulate};
 ghost use Rattle.arch_sobel.specs.Inner.{Inner};

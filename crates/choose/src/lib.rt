@@ -1,4 +1,6 @@
 // One of two values, and zeroed bytes. There are no generics, so a choice stands once for each type that is chosen from.
+#![tactic(auto)]
+
 ghost use Rattle.std.specs.Prelude.{◌≡◌, cond, min, max, length};
 ghost use Rattle.laws.specs.Lists.{tabulate};
 

@@ -1,6 +1,8 @@
 // Lists of content calls, described by bytes as compare/README.md states, run from the fresh state on memory of their own. What
 // each call brings is written out as bytes. These functions only make inputs and write outputs down: their contracts say where
 // they write, and the calls' own contracts say what a call brings.
+#![tactic(auto)]
+
 mod output;
 mod state;
 
@@ -99,7 +101,7 @@ fn call(
 }
 
 // A list on its way: the state, the size of its frames, the clock, and where the output ends.
-#[derive(Drop)]
+#[derive(Clone, Copy)]
 pub struct List {
     state: Detector,
     size: Size,

@@ -1,5 +1,7 @@
 // The leaves, callable from other languages: compare/ holds them against the Rust. A slice passes as a pointer and then a length.
 // Nothing is asked of a caller: what a leaf requires is tested here, and a call that fails the test writes nothing.
+#![tactic(auto)]
+
 ghost use Rattle.std.specs.Prelude.{◌≡◌, ◌&&◌, ◌*◌, ◌<◌, eqb, length};
 ghost use Rattle.frame.specs.Checks.{luma_refusal, bgr_refusal, hsv_refusal};
 ghost use Rattle.arch_hsv.specs.Hsv.{hue, saturation, value, hsv_planes};

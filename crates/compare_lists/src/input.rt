@@ -149,7 +149,7 @@ pub fn initial_cut(script: &[u8]) -> bool
     byte(script, 0, 7) / 2 % 2 == 0
 }
 
-#[derive(Drop)]
+#[derive(Clone, Copy)]
 pub struct Size {
     pub width: u32,
     pub height: u32,

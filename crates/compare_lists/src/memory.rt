@@ -8,7 +8,7 @@ use crate::input;
 use input::Size;
 
 // The numbers of a frame call.
-#[derive(Drop)]
+#[derive(Clone, Copy)]
 pub struct Numbers {
     pub width: u32,
     pub height: u32,

@@ -1,4 +1,6 @@
 // The whole session, callable from other languages: compare/ holds it against the Rust. A slice passes as a pointer and then a length.
+#![tactic(auto)]
+
 ghost use Rattle.std.specs.Prelude.{ltb};
 ghost use Rattle.session.specs.Promises.{IsOutput};
 

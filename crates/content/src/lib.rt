@@ -1,5 +1,7 @@
 // The content detector without its pixels (RULES 8): options, the state record, settings, the step of an accepted frame, `clear` and
 // the readers. Values go in and come out. The frame calls are in the crate `content_frames`.
+#![tactic(auto)]
+
 ghost use Rattle.std.specs.Prelude.{◌≡◌};
 ghost use Rattle.content.specs.Options.{options, defaults, filter_options, picture_options, options_refusal};
 ghost use Rattle.content.specs.State.{fresh, missing, bad_filter, bad_state, settled, refused_answer, cleared_answer};
@@ -11,7 +13,7 @@ use score::{Components, KernelSize, MaybeComponents, MaybeScore};
 use stream::{Stream, Sums};
 use timestamp::{MaybeTimestamp, Timestamp};
 
-#[derive(Drop)]
+#[derive(Clone, Copy)]
 pub struct Options {
     pub threshold: f64,
     // The least distance from one cut to the next, in microseconds.
@@ -24,7 +26,7 @@ pub struct Options {
 }
 
 // What one call hands to the next.
-#[derive(Drop)]
+#[derive(Clone, Copy)]
 pub struct Detector {
     pub options: Options,
     pub stream: Stream,
@@ -32,7 +34,7 @@ pub struct Detector {
 }
 
 // What a settings call returns: a refusal's number or 0, and a fresh state.
-#[derive(Drop)]
+#[derive(Clone, Copy)]
 pub struct Settled {
     pub number: u32,
     pub detector: Detector,
@@ -41,7 +43,7 @@ pub struct Settled {
 // What a frame call or `clear` returns besides the memory it writes: a refusal's number or 0, the state, the cut or none, the score or
 // none, the four components, which are 0.0 where there is no score, and the whole sums and the count that they come from, which are 0
 // there.
-#[derive(Drop)]
+#[derive(Clone, Copy)]
 pub struct Answer {
     pub number: u32,
     pub detector: Detector,

@@ -1,5 +1,7 @@
 // The content detector's frame calls on frame records (RULES 2.8). A record is taken apart, and the call on plain parameters is made: it
 // checks again, so a record that no constructor made, or whose refusal nobody read, is refused as its planes are.
+#![tactic(auto)]
+
 ghost use Rattle.std.specs.Prelude.{◌≡◌};
 ghost use Rattle.stream.specs.Stream.{FromSums};
 ghost use Rattle.frame_call.specs.Call.{luma, bgr, hsv, memory, Called};

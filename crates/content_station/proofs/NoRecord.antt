@@ -15,7 +15,7 @@ use Rattle.content.specs.State.{bad_state, refused_answer, cleared_answer}
 use Rattle.content.specs.Step.{stepped, called}
 use Rattle.content_words.specs.Record.{is_content, content_of}
 use Rattle.content_words.proofs.Refused.{no-record-bad}
-use Rattle.station_answer.specs.Contracts.{FrameContract, ClearContract}
+use Rattle.station_answer.specs.Promises.{FrameContract, ClearContract}
 use Rattle.content_station.specs.Station.{content_layout, content_call}
 
 -- the number of an answer to a frame, and the number of a frame at a bad state

@@ -11,7 +11,7 @@ use Rattle.frame_call.specs.Call.{Call, Outcome}
 use Rattle.content.specs.Step.{called}
 use Rattle.content_words.specs.Record.{content_words, content_of}
 use Rattle.station_answer.specs.Settings.{no_mode}
-use Rattle.station_answer.specs.Contracts.{Layout, Brought, Started}
+use Rattle.station_answer.specs.Promises.{Layout, Brought, Started}
 
 -- the record of the content detector in words, and its weights
 abbrev pub content_layout : Layout Detector

@@ -1,5 +1,7 @@
 // The content detector's calls on lent words. Its state is 27 words, as the crate `content_words` lays them out, its answer 13; what is
 // not a record is refused by 15.
+#![tactic(auto)]
+
 ghost use Rattle.std.specs.Prelude.{◌≡◌};
 ghost use Rattle.score.specs.Scores.{components as components·of};
 ghost use Rattle.words.specs.Choices.{score_tag, components_tag};
@@ -10,7 +12,7 @@ ghost use Rattle.frame_call.specs.Call.{luma, bgr, hsv, clear, memory};
 ghost use Rattle.content_words.specs.Record.{content_words, content_of};
 ghost use Rattle.station_answer.specs.Answer.{stamp, answer_words, ReadAs, score_shown, component_at};
 ghost use Rattle.station_answer.specs.Settings.{mode_set, kernel_set, flag_set};
-ghost use Rattle.station_answer.specs.Contracts.{FrameContract, ClearContract, SettingsContract};
+ghost use Rattle.station_answer.specs.Promises.{FrameContract, ClearContract, SettingsContract};
 ghost use Rattle.content_station.specs.Station.{content_layout, content_call, started_by, settled_by};
 
 use content::{Answer, Options, Settled};

@@ -1,5 +1,7 @@
 // The content detector's record in 27 words: a version, then each field. Any 27 words are read: what is not a record is read as one that
 // every call refuses by 15.
+#![tactic(auto)]
+
 ghost use Rattle.std.specs.Prelude.{◌≡◌, true, length};
 ghost use Rattle.content_words.specs.Options.{mode_word, mode_of, options_words, is_options, options_of};
 ghost use Rattle.content_words.specs.Filter.{filter_words, is_filter, filter_of};

@@ -1,5 +1,7 @@
 // The list of a sitting (RULES 17): up to 512 stamps in lent memory, rising and at least a minimum apart. The record passes by value, the
 // memory is lent. Every operation first looks the list over, in one pass, and refuses a bad one by 15.
+#![tactic(auto)]
+
 ghost use Rattle.std.specs.Prelude.{◌≡◌, true, false, cond, ◌∷◌, ◌++◌, ◌≤◌, ◌<◌, ◌+◌, ◌-◌, eqb, ltb, ℤ, pos, length, get_or, take, drop, replicate};
 ghost use Rattle.std.specs.Int.Signed.{le_z, lt_z};
 ghost use Rattle.timestamp.specs.Stamps.{distance};
@@ -14,7 +16,7 @@ use timestamp::{MaybeTimestamp, Since, Timestamp};
 pub const MOST_STAMPS: usize = 512;
 
 // The record of a list. Its stamps are the first `count` places of the memory that goes with it.
-#[derive(Drop)]
+#[derive(Clone, Copy)]
 pub struct CutList {
     // The least distance from one stamp to the next, in microseconds.
     pub min_duration: u64,
@@ -22,21 +24,21 @@ pub struct CutList {
 }
 
 // What add, remove and empty return: 0 and the record after it, or the number of the refusal and the record as it was.
-#[derive(Drop)]
+#[derive(Clone, Copy)]
 pub struct Changed {
     pub number: u32,
     pub list: CutList,
 }
 
 // The nearest stamp, or none in an empty list.
-#[derive(Drop)]
+#[derive(Clone, Copy)]
 pub struct NearestStamp {
     pub number: u32,
     pub nearest: MaybeTimestamp,
 }
 
 // The stamps within a span: the place of the first, from 0, and how many there are; 0 and 0 if there is none.
-#[derive(Drop)]
+#[derive(Clone, Copy)]
 pub struct StampsWithin {
     pub number: u32,
     pub first: usize,
@@ -44,7 +46,7 @@ pub struct StampsWithin {
 }
 
 // The clip of a stamp: how many stamps of the list are at or before it.
-#[derive(Drop)]
+#[derive(Clone, Copy)]
 pub struct ClipOfStamp {
     pub number: u32,
     pub clip: usize,

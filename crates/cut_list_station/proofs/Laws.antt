@@ -18,7 +18,7 @@ use Rattle.cut_list.specs.declared.ClipOfStamp.{ClipOfStamp}
 use Rattle.cut_list.specs.Record.{Held, held, cut_list, is_bad}
 use Rattle.cut_list.specs.Change.{Turn, turned, added, removed, emptied}
 use Rattle.cut_list_station.specs.Words.{list_version, list_words, is_list, foreign, list_of}
-use Rattle.cut_list_station.specs.Contracts.{ChangeContract, NearestContract, SpanContract, ClipContract}
+use Rattle.cut_list_station.specs.Promises.{ChangeContract, NearestContract, SpanContract, ClipContract}
 
 -- ---- the record in words
 

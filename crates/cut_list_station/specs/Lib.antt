@@ -1,2 +1,2 @@
 pub mod Words
-pub mod Contracts
+pub mod Promises

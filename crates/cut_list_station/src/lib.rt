@@ -1,12 +1,14 @@
 // The calls on a list of a sitting, for a station: its record is three words, its stamps lent memory. Words that are not a record are read as
 // a list that every operation refuses by 15.
+#![tactic(auto)]
+
 ghost use Rattle.std.specs.Prelude.{◌≡◌};
 ghost use Rattle.station_answer.specs.Answer.{after};
 ghost use Rattle.cut_list.specs.Record.{held};
 ghost use Rattle.cut_list.specs.Change.{added, removed, emptied};
 ghost use Rattle.cut_list.specs.Find.{nearest_in, span_in, clip_in};
 ghost use Rattle.cut_list_station.specs.Words.{list_words, list_of};
-ghost use Rattle.cut_list_station.specs.Contracts.{NewContract, ChangeContract, NearestContract, SpanContract, ClipContract};
+ghost use Rattle.cut_list_station.specs.Promises.{NewContract, ChangeContract, NearestContract, SpanContract, ClipContract};
 
 use cut_list::{Changed, CutList};
 use timestamp::Timestamp;

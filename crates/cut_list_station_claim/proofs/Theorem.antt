@@ -24,7 +24,7 @@ use Rattle.cut_list_claim.proofs.Cuts.{keeps-fit, stretches-fit}
 use Rattle.station_claim.specs.Run.{StationCall}
 use Rattle.station_claim.specs.Claim.{with_cut_read, ContentSpacing, read_from_clear_to_clear, AdaptiveSpacing}
 use Rattle.cut_list_station.specs.Words.{list_of}
-use Rattle.cut_list_station.specs.Contracts.{NewContract, ChangeContract}
+use Rattle.cut_list_station.specs.Promises.{NewContract, ChangeContract}
 use Rattle.cut_list_station_claim.specs.Run.{ListCall, operation_of, operated_by, ListCallMade, by-add, by-remove, by-empty, by-nearest, by_span, by-clip, ListCallsMade, none, then}
 use Rattle.cut_list_station_claim.specs.Claim.{CallsOnList, FitsByCalls}
 

@@ -7,7 +7,7 @@ use Rattle.cut_list.specs.Change.{same, any_of}
 use Rattle.cut_list_claim.specs.Run.{add, list_run, list_after, added_since}
 use Rattle.cut_list_claim.specs.Claim.{Apart, fitting_numbers}
 use Rattle.cut_list_station.specs.Words.{list_of}
-use Rattle.cut_list_station.specs.Contracts.{NewContract}
+use Rattle.cut_list_station.specs.Promises.{NewContract}
 use Rattle.cut_list_station_claim.specs.Run.{ListCall, operation_of, operated_by, ListCallsMade}
 
 -- the claim about a list of calls from memory m to the words s' and memory m'

@@ -5,7 +5,7 @@ use Rattle.cut_list.specs.Change.{added, removed, emptied}
 use Rattle.cut_list.specs.Find.{nearest_in, span_in, clip_in}
 use Rattle.cut_list_claim.specs.Run.{Operation, add, remove, empty, nearest, span, clip, Operated}
 use Rattle.cut_list_station.specs.Words.{list_of}
-use Rattle.cut_list_station.specs.Contracts.{ChangeContract, NearestContract, SpanContract, ClipContract}
+use Rattle.cut_list_station.specs.Promises.{ChangeContract, NearestContract, SpanContract, ClipContract}
 
 -- what a station sees of a call that it made on a list: the operation, the number that was returned, and the record's words and the memory
 -- after it

@@ -1,4 +1,6 @@
 // Clip cuts (RULES 11): reads frame lines on standard input to its end and writes the answers to standard output as it goes.
+#![tactic(auto)]
+
 ghost use Rattle.std.specs.Prelude.{◌≡◌, true, ◌≤◌, length};
 ghost use Rattle.session.specs.Feeding.{fed};
 ghost use Rattle.session.specs.Sessions.{state_of, last_state};
@@ -11,7 +13,7 @@ use session::{HEADER, HELD, PIXELS, ROOM, SCRATCH, STORE, Session};
 const MOST_READS: u64 = u64::MAX;
 
 // What one read leaves: the session, how many bytes came (0: the input has ended, or the read failed), and whether all text was written.
-#[derive(Drop)]
+#[derive(Clone, Copy)]
 struct Turn {
     session: Session,
     count: usize,
@@ -19,7 +21,7 @@ struct Turn {
 }
 
 // How the reads end: how many there were, and whether there is more to read.
-#[derive(Drop)]
+#[derive(Clone, Copy)]
 struct Ended {
     reads: u64,
     more: bool,

@@ -1,4 +1,6 @@
 // Decimal numbers and stamps, read from text (RULES 11.2) and written as text (RULES 11.6).
+#![tactic(auto)]
+
 ghost use Rattle.std.specs.Prelude.{◌≡◌, ◌&&◌, [], ◌∷◌, ◌+◌, ◌-◌, ◌*◌, ◌≤◌, leb, pos, neg_ℤ, nat_abs, length};
 ghost use Rattle.decimal.specs.Reading.{is_digit, number_if, number_read, stamp_read};
 ghost use Rattle.decimal.specs.Writing.{digits, decimal, stamp_text};
@@ -15,14 +17,14 @@ const MOST_STAMP: u64 = 9223372036854775807;
 const MOST_BELOW: u64 = 9223372036854775808;
 
 // A number that was read; 0 where the text is none.
-#[derive(Drop)]
+#[derive(Clone, Copy)]
 pub struct Number {
     pub ok: bool,
     pub value: u64,
 }
 
 // A stamp that was read; 0 where the text is none.
-#[derive(Drop)]
+#[derive(Clone, Copy)]
 pub struct Stamp {
     pub ok: bool,
     pub stamp: Timestamp,

@@ -1,5 +1,7 @@
 // Dilation: each byte of a plane becomes the largest in a window about it, in a time that does not depend on the window's size (van Herk).
 // Sixteen lines of the plane are worked at a time: cell i of a scratch array is its places i * 16 to i * 16 + 15, place i of each of the lines.
+#![tactic(auto)]
+
 ghost use Rattle.std.specs.Prelude.{◌≡◌, ℕ, ◌+◌, ◌-◌, ◌*◌, ◌<◌, ◌≤◌, max, length, get_or};
 ghost use Rattle.dilate.specs.Dilate.{dilated};
 ghost use Rattle.dilate.specs.Scratch.{lane, line_of, Wrote, Cells, Apart, LinesDilated, stored, prefix, suffix, kept_of, next_of, prev_of, window_of};

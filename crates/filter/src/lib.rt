@@ -1,16 +1,18 @@
 // The filter (RULES 7), which is the flash filter of the Rust's content.rs: which scored frames of a stretch are cuts.
+#![tactic(auto)]
+
 ghost use Rattle.std.specs.Prelude.{true, false, ◌≡◌};
 ghost use Rattle.filter.specs.Flash.{fresh, virtual_seed, seeded, min_length_met, step_to, suppressed, num_merged, merge_held, merge_free, advanced, filter_merge, flash_filter};
 
 use timestamp::{MaybeTimestamp, Timestamp};
 
-#[derive(Drop)]
+#[derive(Clone, Copy)]
 pub enum FilterMode {
     Suppress,
     Merge,
 }
 
-#[derive(Drop)]
+#[derive(Clone, Copy)]
 pub struct FilterOptions {
     pub filter_mode: FilterMode,
     // The least distance from one cut to the next, in microseconds.
@@ -20,7 +22,7 @@ pub struct FilterOptions {
 }
 
 // What the filter keeps from one scored frame to the next.
-#[derive(Drop)]
+#[derive(Clone, Copy)]
 pub struct Filter {
     pub last_above: MaybeTimestamp,
     pub merge_enabled: bool,
@@ -29,7 +31,7 @@ pub struct Filter {
 }
 
 // The filter after a scored frame, and the frame's cut or none.
-#[derive(Drop)]
+#[derive(Clone, Copy)]
 pub struct FilterStep {
     pub filter: Filter,
     pub cut: MaybeTimestamp,

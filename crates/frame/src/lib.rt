@@ -1,5 +1,7 @@
 // The checks of luma, BGR and HSV frames: the first of the refusals 1 to 5 whose condition holds, and 0 for a frame that
 // passes (RULES 2.6). Any sides, strides and lengths are taken.
+#![tactic(auto)]
+
 ghost use Rattle.std.specs.Prelude.{◌≡◌, length};
 ghost use Rattle.frame.specs.Checks.{plane_refusal, luma_refusal, bgr_refusal, hsv_refusal};
 

@@ -1,6 +1,8 @@
 // What a frame is to either detector, the same for both: refused by the first number that applies (RULES 10.5), or its planes, the sums of
 // their differences with the last frame's, the stream after it with its score, and the store after it (RULES 8.4, 12.3). A detector adds
 // its step.
+#![tactic(auto)]
+
 ghost use Rattle.std.specs.Prelude.{◌≡◌, ◌+◌, ◌*◌, ◌≤◌, length};
 ghost use Rattle.stream.specs.Stream.{no_sums, memory_refusal};
 ghost use Rattle.frame.specs.Checks.{luma_refusal, bgr_refusal, hsv_refusal};
@@ -11,7 +13,7 @@ use score::{Components, KernelSize};
 use stream::{Stream, Sums};
 
 // The settings that a frame's picture is scored by.
-#[derive(Drop)]
+#[derive(Clone, Copy)]
 pub struct PictureOptions {
     pub weights: Components,
     pub kernel_size: KernelSize,
@@ -19,7 +21,7 @@ pub struct PictureOptions {
 
 // The result of a frame, for either detector: a refusal's number or 0, the stream after it (refused: as it was) and the sums of its
 // differences (refused: all 0).
-#[derive(Drop)]
+#[derive(Clone, Copy)]
 pub struct Picture {
     pub number: u32,
     pub stream: Stream,

@@ -4,6 +4,8 @@
 // below, if there is one.
 // Only the six functions `content_luma` to `adaptive_hsv` hold a record (RULES 2.8). Their parameters and results are plain, so that their
 // callers are covered.
+#![tactic(auto)]
+
 ghost use Rattle.std.specs.Prelude.{◌≡◌, length};
 ghost use Rattle.frame.specs.Checks.{luma_refusal, bgr_refusal, hsv_refusal};
 ghost use Rattle.stream.specs.Stream.{FromSums};
@@ -18,14 +20,14 @@ use stream::Sums;
 use timestamp::{MaybeTimestamp, Since, Timestamp};
 
 // The number of a frame by its constructor, and the answer of the content detector to it.
-#[derive(Drop)]
+#[derive(Clone, Copy)]
 struct ContentFed {
     number: u32,
     answer: content::Answer,
 }
 
 // The same of the adaptive detector.
-#[derive(Drop)]
+#[derive(Clone, Copy)]
 struct AdaptiveFed {
     number: u32,
     answer: adaptive::Answer,

@@ -1,4 +1,6 @@
 // A line of the session program: `stamp,width,height` and the luma values, in decimal (RULES 11.2, 11.3).
+#![tactic(auto)]
+
 ghost use Rattle.std.specs.Prelude.{◌≡◌, true, ◌&&◌, map, ◌*◌, ◌≤◌, eqb, length, take};
 ghost use Rattle.decimal.specs.Reading.{number};
 ghost use Rattle.frame_line.specs.Line.{all_values, is_frame_line, line_of, luma_of, fields, no_frame};
@@ -19,7 +21,7 @@ const LARGEST_SIDE_READ: u64 = 4294967295;
 const MOST_VALUE: u64 = 255;
 
 // What a line says. Where it is not a valid frame line, the stamp and the sides are 0.
-#[derive(Drop)]
+#[derive(Clone, Copy)]
 pub struct FrameLine {
     pub is_frame: bool,
     pub stamp: Timestamp,
@@ -28,7 +30,7 @@ pub struct FrameLine {
 }
 
 // A number in a field, and where the field ends.
-#[derive(Drop)]
+#[derive(Clone, Copy)]
 struct Field {
     ok: bool,
     value: u64,

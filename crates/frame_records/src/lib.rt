@@ -1,12 +1,14 @@
 // Frames as records that hold the caller's planes. A constructor checks by 1 to 5, and a reader shows a field. The functions
 // that work take the planes as plain parameters: a frame call checks again, so it does not trust a record.
+#![tactic(auto)]
+
 ghost use Rattle.std.specs.Prelude.{◌≡◌};
 ghost use Rattle.frame_records.specs.Frames.{luma_frame, rgb_frame, hsv_frame};
 
 use timestamp::Timestamp;
 
 // A luma plane. Row y starts at byte y × stride, and its first width bytes are pixels.
-#[derive(Drop)]
+#[derive(Clone, Copy)]
 pub struct LumaFrame<'a> {
     pub data: &'a [u8],
     pub width: u32,
@@ -16,7 +18,7 @@ pub struct LumaFrame<'a> {
 }
 
 // Packed pixels, three bytes each, which the detectors read as blue, green, red. Row y starts at byte y × stride.
-#[derive(Drop)]
+#[derive(Clone, Copy)]
 pub struct RgbFrame<'a> {
     pub data: &'a [u8],
     pub width: u32,
@@ -26,7 +28,7 @@ pub struct RgbFrame<'a> {
 }
 
 // Hue, saturation and value planes of one size and stride.
-#[derive(Drop)]
+#[derive(Clone, Copy)]
 pub struct HsvFrame<'a> {
     pub h: &'a [u8],
     pub s: &'a [u8],
@@ -38,19 +40,19 @@ pub struct HsvFrame<'a> {
 }
 
 // In place of a `Result` of a frame: the number of its refusal, or 0, and the frame as it was given.
-#[derive(Drop)]
+#[derive(Clone, Copy)]
 pub struct LumaFrameResult<'a> {
     pub number: u32,
     pub frame: LumaFrame<'a>,
 }
 
-#[derive(Drop)]
+#[derive(Clone, Copy)]
 pub struct RgbFrameResult<'a> {
     pub number: u32,
     pub frame: RgbFrame<'a>,
 }
 
-#[derive(Drop)]
+#[derive(Clone, Copy)]
 pub struct HsvFrameResult<'a> {
     pub number: u32,
     pub frame: HsvFrame<'a>,

@@ -1,4 +1,6 @@
 // Prints the table of marks (RULES 5.14): a header, then the low and the high mark of each median.
+#![tactic(auto)]
+
 ghost use Rattle.std.specs.Prelude.{◌≡◌, [], ◌∷◌, ◌++◌, ◌+◌, ◌≤◌, length};
 ghost use Rattle.decimal.specs.Placed.{placed};
 ghost use Rattle.decimal.specs.Writing.{decimal};

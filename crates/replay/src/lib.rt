@@ -1,4 +1,6 @@
 // The generator, the digest and the printed line of the replays, as compare/README.md states them.
+#![tactic(auto)]
+
 ghost use Rattle.std.specs.Prelude.{◌≡◌, ◌<◌, length};
 ghost use Rattle.std.specs.Float.{binary64};
 ghost use Rattle.std.specs.Float.Ieee.{to_bits};
@@ -60,7 +62,7 @@ pub fn fill(dst: &mut [u8], x: u32, kind: u32) -> u32
 }
 
 // Adler-32's two sums.
-#[derive(Drop)]
+#[derive(Clone, Copy)]
 pub struct Digest {
     pub a: u32,
     pub b: u32,

@@ -1,5 +1,7 @@
 // Lists of adaptive calls made by the generator, for the comparison with the Rust (RULES 14.3): a digest for each batch of 256 lists, as
 // compare/README.md states. Then sample rows (RULES 13.2).
+#![tactic(auto)]
+
 mod samples;
 
 ghost use Rattle.std.specs.Prelude.{◌≤◌, ◌≡◌, length, take};
@@ -19,7 +21,7 @@ fn feed_first(d: Digest, out: &[u8], n: usize) -> Digest
 }
 
 // A batch's digest and the generator's number after it.
-#[derive(Drop)]
+#[derive(Clone, Copy)]
 struct Run {
     x: u32,
     digest: Digest,

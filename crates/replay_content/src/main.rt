@@ -1,4 +1,6 @@
 // Lists of content calls made by the generator: a digest for each batch of 256 lists, as compare/README.md states.
+#![tactic(auto)]
+
 ghost use Rattle.std.specs.Prelude.{◌≡◌, length, take};
 ghost use Rattle.replay.specs.Digest.{fed};
 ghost use Rattle.replay.specs.Generator.{after};
@@ -16,7 +18,7 @@ fn feed_first(d: Digest, out: &[u8], n: usize) -> Digest
 }
 
 // A batch's digest and the generator's number after it.
-#[derive(Drop)]
+#[derive(Clone, Copy)]
 struct Run {
     x: u32,
     digest: Digest,

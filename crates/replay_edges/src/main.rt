@@ -1,5 +1,7 @@
 // Edge planes of generated frames and of two that show a trap, the marks of all medians, and windows by frame size:
 // digests, as compare/README.md states.
+#![tactic(auto)]
+
 ghost use Rattle.std.specs.Prelude.{◌≡◌, ◌*◌, ◌≤◌, ◌<◌, length};
 ghost use Rattle.canny.specs.Edges.{edge_plane};
 ghost use Rattle.replay.specs.Digest.{empty, fed};
@@ -8,7 +10,7 @@ ghost use Rattle.replay_edges.specs.Edges.{edged, side_of, batch_of, marks_of, w
 use replay::Digest;
 
 // A batch on its way: the generator's number and the digest.
-#[derive(Drop)]
+#[derive(Clone, Copy)]
 pub struct Run {
     pub x: u32,
     pub digest: Digest,

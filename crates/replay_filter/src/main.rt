@@ -1,5 +1,7 @@
 // Lists of calls of the content detector with 1 × 1 luma frames that score high or 0: its answers, cuts and scores, as
 // digests, for the comparison with the Rust (RULES 14.3). compare/README.md states the lists.
+#![tactic(auto)]
+
 ghost use Rattle.std.specs.Prelude.{◌≡◌, ◌<◌, ◌≤◌, length};
 ghost use Rattle.replay_filter.specs.Lists.{mode_of, weights_of, minimum_of, options_of, stride_of, answered_of, stamp_of, moved_by, outcome_of, run_after, opened_of, list_of, batch_of};
 ghost use Rattle.replay_filter.specs.Answers.{bits_of, cut_fed, score_fed, answer_fed};
@@ -11,7 +13,7 @@ use score::{Components, MaybeScore};
 use timestamp::{MaybeTimestamp, Timestamp};
 
 // A list on its way: the generator's number, the place of the last stamp, the digest and the detector's state.
-#[derive(Drop)]
+#[derive(Clone, Copy)]
 struct Run {
     x: u32,
     place: usize,

@@ -1,4 +1,6 @@
 // All 2^24 pixels through `bgr_to_hsv_pixel`: a digest for each 2^20 of them, as compare/README.md states.
+#![tactic(auto)]
+
 ghost use Rattle.std.specs.Prelude.{◌≡◌, ◌*◌, ◌<◌};
 ghost use Rattle.replay.specs.Digest.{fed};
 ghost use Rattle.replay_hsv.specs.Pixels.{pixel_bytes, digest_of};

@@ -101,7 +101,7 @@ pub fn other(r: &[u8; 32], ts: u64, fills: bool, minimum: u64, memory: &[i64]) -
     aimed(r, 20, fills, minimum, memory)
 }
 
-#[derive(Drop)]
+#[derive(Clone, Copy)]
 pub enum Kind {
     Add,
     Remove,

@@ -1,5 +1,7 @@
 // Lists of operations on the list of a sitting, made by the generator: a digest for each batch of 64 lists. compare/README.md states them:
 // "Lists of operations" the records that describe a list, "Replays" what the digest takes.
+#![tactic(auto)]
+
 mod input;
 mod numbers;
 mod starts;
@@ -12,7 +14,7 @@ use replay::Digest;
 use timestamp::{MaybeTimestamp, Timestamp};
 
 // What an operation leaves: its number, the record, and the digest with number and answer.
-#[derive(Drop)]
+#[derive(Clone, Copy)]
 struct Done {
     number: u32,
     list: CutList,
@@ -105,7 +107,7 @@ fn feed(d: Digest, list: CutList, memory: &[i64]) -> Digest {
 }
 
 // A list of operations on its way: the generator's number, whether stamps are mostly added, the record and the digest.
-#[derive(Drop)]
+#[derive(Clone, Copy)]
 struct Run {
     x: u32,
     fills: bool,

@@ -1,5 +1,7 @@
 // Plane conversions, differences, Sobel's planes and frame checks over generated planes: a digest for each width of
 // each, as compare/README.md states.
+#![tactic(auto)]
+
 use libc::STDOUT_FILENO;
 use replay::Digest;
 
@@ -10,7 +12,7 @@ ghost use Rattle.std.specs.Prelude.{◌≡◌, ◌≤◌, ◌<◌};
 ghost use Rattle.replay_planes.specs.Batches.{one_of, batch_of};
 
 // The batch's stages, in the order in which they are printed.
-#[derive(Drop)]
+#[derive(Clone, Copy)]
 pub enum Stage {
     CopyPlane,
     BgrToHsvPlanes,
@@ -20,7 +22,7 @@ pub enum Stage {
 }
 
 // A batch on its way: the generator's number and the digest.
-#[derive(Drop)]
+#[derive(Clone, Copy)]
 pub struct Run {
     pub x: u32,
     pub digest: Digest,

@@ -1,5 +1,7 @@
 // The score of a frame: four components and their weights (RULES 6), and refusals 6 to 9 of settings (RULES 10.1). Every function
 // takes any floats, NaN and infinities among them.
+#![tactic(auto)]
+
 ghost use Rattle.std.specs.Prelude.{◌≡◌};
 ghost use Rattle.std.specs.Float.Ieee.{is_nan, le};
 ghost use Rattle.score.specs.Floats.{abs_of};
@@ -8,7 +10,7 @@ ghost use Rattle.score.specs.Settings.{too_heavy, any_too_heavy, all_zero, bad_k
 
 // The four components of a score: a frame's deltas, or their weights. The Rust's `set_` forms are left out: a value
 // goes in and comes out.
-#[derive(Drop)]
+#[derive(Clone, Copy)]
 pub struct Components {
     pub delta_hue: f64,
     pub delta_sat: f64,
@@ -33,14 +35,14 @@ pub const LUMA_ONLY_WEIGHTS: Components = Components {
 };
 
 // A score or a ratio that may be missing. The Rust's `Option<f64>`.
-#[derive(Drop)]
+#[derive(Clone, Copy)]
 pub enum MaybeScore {
     None,
     Some(f64),
 }
 
 // Components that may be missing. The Rust's `Option<Components>`.
-#[derive(Drop)]
+#[derive(Clone, Copy)]
 pub enum MaybeComponents {
     None,
     Some(Components),
@@ -176,7 +178,7 @@ pub fn is_nan(x: f64) -> bool
 }
 
 // The side of the dilation window: worked out from the frame's size, or set. The Rust's `Option<u32>`.
-#[derive(Drop)]
+#[derive(Clone, Copy)]
 pub enum KernelSize {
     Auto,
     Set(u32),

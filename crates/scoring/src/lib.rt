@@ -1,5 +1,7 @@
 // What both detectors do with a frame's pixels: its packed planes (RULES 2.7), the sums of their differences with those of the store
 // (RULES 4.3, 4.4), and the store after it (RULES 12.3).
+#![tactic(auto)]
+
 ghost use Rattle.std.specs.Prelude.{◌≡◌, cond, ◌++◌, ℕ, ◌+◌, ◌*◌, ◌^◌, ◌<◌, ◌≤◌, length, take, drop};
 ghost use Rattle.scoring.specs.Planes.{joined, luma_frame, bgr_frame, hsv_frame, planes_in, luma_part, edge_part, rest_part};
 ghost use Rattle.scoring.specs.Sums.{plane_sums, kernel_of, frame_sums, store_after};

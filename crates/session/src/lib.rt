@@ -1,5 +1,7 @@
 // The session program on slices (RULES 11): bytes of frame lines in, bytes of answers out. The input comes in chunks of any sizes; a
 // session, the line, the luma values and the store are handed back as they were left.
+#![tactic(auto)]
+
 ghost use Rattle.std.specs.Prelude.{◌≡◌, true, [], ◌∷◌, ◌++◌, ◌+◌, ◌*◌, ◌≤◌, ◌<◌, length, take, replicate};
 ghost use Rattle.decimal.specs.Placed.{placed};
 ghost use Rattle.decimal.specs.Writing.{decimal};
@@ -31,7 +33,7 @@ pub const HEADER: usize = 17;
 pub const ROOM: usize = 64;
 
 // What one chunk hands to the next: the detector, the number of the current line, and how many bytes of it the lent line holds.
-#[derive(Drop)]
+#[derive(Clone, Copy)]
 pub struct Session {
     pub detector: Detector,
     pub number: u64,
@@ -39,7 +41,7 @@ pub struct Session {
 }
 
 // What feeding brings: the session, how many bytes of the chunk were taken, and how many bytes of text were written.
-#[derive(Drop)]
+#[derive(Clone, Copy)]
 pub struct Fed {
     pub session: Session,
     pub taken: usize,
@@ -47,14 +49,14 @@ pub struct Fed {
 }
 
 // What a whole session brings: whether `out` had room for the output, and the output's length, 0 where there was no room.
-#[derive(Drop)]
+#[derive(Clone, Copy)]
 pub struct Whole {
     pub ok: bool,
     pub written: usize,
 }
 
 // The bytes that the line holds, and the place in the chunk where its line ends.
-#[derive(Drop)]
+#[derive(Clone, Copy)]
 struct Held {
     length: usize,
     at: usize,

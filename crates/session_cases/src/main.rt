@@ -1,5 +1,7 @@
 // Further inputs of the session, all on standard input as one session: every rule of refusal 16, both ends of the limits. It prints the
 // output, and up to which chunk size the output was the same byte for byte.
+#![tactic(auto)]
+
 ghost use Rattle.std.specs.Prelude.{◌≡◌, true};
 ghost use Rattle.session_cases.specs.Starts.{StartSame};
 

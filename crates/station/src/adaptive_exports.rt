@@ -9,7 +9,7 @@ ghost use Rattle.frame_call.specs.Call.{luma, bgr, hsv, clear, memory};
 ghost use Rattle.adaptive_words.specs.Record.{adaptive_of};
 ghost use Rattle.station_answer.specs.Answer.{stamp, score_shown, component_at};
 ghost use Rattle.station_answer.specs.Settings.{kernel_set, flag_set};
-ghost use Rattle.station_answer.specs.Contracts.{FrameContract, ClearContract, SettingsContract};
+ghost use Rattle.station_answer.specs.Promises.{FrameContract, ClearContract, SettingsContract};
 ghost use Rattle.adaptive_station.specs.Station.{adaptive_layout, adaptive_call, started_by};
 
 // A luma frame.

@@ -9,7 +9,7 @@ ghost use Rattle.frame_call.specs.Call.{luma, bgr, hsv, clear, memory};
 ghost use Rattle.content_words.specs.Record.{content_of};
 ghost use Rattle.station_answer.specs.Answer.{stamp, score_shown, component_at};
 ghost use Rattle.station_answer.specs.Settings.{mode_set, kernel_set, flag_set};
-ghost use Rattle.station_answer.specs.Contracts.{FrameContract, ClearContract, SettingsContract};
+ghost use Rattle.station_answer.specs.Promises.{FrameContract, ClearContract, SettingsContract};
 ghost use Rattle.content_station.specs.Station.{content_layout, content_call, started_by, settled_by};
 
 // A luma frame.

@@ -3,6 +3,8 @@
 // numbers. Of the pointers the header requires what no proof here covers: each is not NULL, is aligned, points to as much memory as its type
 // or its length says; nothing that is written overlaps anything else; and during the call nobody else writes to any of this memory, or reads
 // what the call writes.
+#![tactic(auto)]
+
 ghost use Rattle.std.specs.Prelude.{◌≡◌, length};
 ghost use Rattle.timestamp.specs.declared.MaybeTimestamp.{MaybeTimestamp};
 ghost use Rattle.score.specs.declared.Components.{Components};

@@ -4,7 +4,7 @@ ghost use Rattle.cut_list.specs.Record.{held};
 ghost use Rattle.cut_list.specs.Change.{added, removed, emptied};
 ghost use Rattle.cut_list.specs.Find.{nearest_in, span_in, clip_in};
 ghost use Rattle.cut_list_station.specs.Words.{list_of};
-ghost use Rattle.cut_list_station.specs.Contracts.{NewContract, ChangeContract, NearestContract, SpanContract, ClipContract};
+ghost use Rattle.cut_list_station.specs.Promises.{NewContract, ChangeContract, NearestContract, SpanContract, ClipContract};
 
 // A list without stamps.
 #[unsafe(no_mangle)]

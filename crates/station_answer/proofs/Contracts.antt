@@ -8,7 +8,7 @@ use lib.ListN.{length}
 use Rattle.stream.specs.Stream.{FromSums}
 use Rattle.frame_call.specs.Call.{Memory}
 use Rattle.station_answer.specs.Answer.{answer_words, ReadAs, after}
-use Rattle.station_answer.specs.Contracts.{Layout, Brought, FrameContract, ClearContract}
+use Rattle.station_answer.specs.Promises.{Layout, Brought, FrameContract, ClearContract}
 
 -- a refused call leaves the old
 kept : {A : Type 0} (r : ℕ) (new old : A) → 0 < r → old ≡ after r new old

@@ -1,4 +1,4 @@
 pub mod Small
 pub mod Enough
 pub mod Made
-pub mod Contracts
+pub mod Promises

@@ -1,4 +1,4 @@
 pub mod Sizes
 pub mod Answer
 pub mod Settings
-pub mod Contracts
+pub mod Promises

@@ -1,5 +1,7 @@
 // What the calls of both detectors share: the memory that a frame needs, an answer in words, settings by numbers, and what the readers
 // show.
+#![tactic(auto)]
+
 ghost use Rattle.std.specs.Prelude.{◌≡◌};
 ghost use Rattle.words.specs.Choices.{score_tag, components_tag};
 ghost use Rattle.stream.specs.Stream.{components_shown};

@@ -24,7 +24,7 @@ use Rattle.frame_call.specs.Call.{Call, luma, bgr, hsv, clear}
 use Rattle.adaptive_claim.specs.Claim.{from_clear_to_clear, AdaptiveClaim}
 use Rattle.adaptive_claim.proofs.Theorem.{adaptive-claim, with_answer, defaults-accepted}
 use Rattle.adaptive_words.specs.Record.{adaptive_of}
-use Rattle.station_answer.specs.Contracts.{SettingsContract}
+use Rattle.station_answer.specs.Promises.{SettingsContract}
 use Rattle.adaptive_station.specs.Station.{adaptive_layout, adaptive_call, started_by}
 use Rattle.station_claim.specs.Run.{StationCall, cut_read, MadeFrom}
 use Rattle.station_claim.specs.Claim.{read_from_clear_to_clear, AdaptiveSpacing}

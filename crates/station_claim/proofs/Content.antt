@@ -26,7 +26,7 @@ use Rattle.content_claim.specs.Claim.{view_of, with_cut, ContentClaim}
 use Rattle.content_claim.proofs.Theorem.{content-claim, defaults-accepted}
 use Rattle.content_words.specs.Record.{content_of}
 use Rattle.station_answer.specs.Settings.{no_mode}
-use Rattle.station_answer.specs.Contracts.{SettingsContract}
+use Rattle.station_answer.specs.Promises.{SettingsContract}
 use Rattle.content_station.specs.Station.{content_layout, content_call, started_by, settings_number, settled_by}
 use Rattle.station_claim.specs.Run.{StationCall, MadeFrom}
 use Rattle.station_claim.specs.Claim.{with_cut_read, ContentSpacing}

@@ -11,7 +11,7 @@ use Rattle.laws.specs.Lists.{All, leave_out}
 use Rattle.frame_call.specs.Call.{Memory, Call, clear}
 use Rattle.frame_call.specs.Run.{own_number}
 use Rattle.station_answer.specs.Answer.{answer_words, cut_in}
-use Rattle.station_answer.specs.Contracts.{Layout, Brought, FrameContract}
+use Rattle.station_answer.specs.Promises.{Layout, Brought, FrameContract}
 use Rattle.station_claim.specs.Run.{is_frame_line, StationCall, was_refused, cut_read, Made, by-frame, by-clear, MadeFrom, none, then}
 use Rattle.station_claim.specs.Claim.{EachCall}
 

@@ -14,7 +14,7 @@ use Rattle.adaptive.specs.declared.Options.{Options as AdaptiveOptions}
 use Rattle.frame_call.specs.Call.{Call, by_call}
 use Rattle.frame_call.specs.Run.{own_number}
 use Rattle.content_claim.specs.Claim.{view_of}
-use Rattle.station_answer.specs.Contracts.{Layout, Brought}
+use Rattle.station_answer.specs.Promises.{Layout, Brought}
 use Rattle.content_station.specs.Station.{content_layout, content_call}
 use Rattle.adaptive_station.specs.Station.{adaptive_layout, adaptive_call}
 use Rattle.station_claim.specs.Run.{StationCall, was_refused, cut_read, MadeFrom}

@@ -4,7 +4,7 @@ use Rattle.timestamp.specs.declared.MaybeTimestamp.{MaybeTimestamp}
 use Rattle.timestamp.specs.declared.MaybeTimestamp.TheVariants.{None}
 use Rattle.frame_call.specs.Call.{Memory, memory, Call, clear, by_call}
 use Rattle.station_answer.specs.Answer.{cut_in}
-use Rattle.station_answer.specs.Contracts.{Layout, Brought, FrameContract, ClearContract}
+use Rattle.station_answer.specs.Promises.{Layout, Brought, FrameContract, ClearContract}
 
 -- whether a call is a frame call, and the memory that it is lent; `clear` is lent none
 abbrev pub is_frame_line : Call → Bool

@@ -1,5 +1,7 @@
 // What both detectors keep of the stream of frames (RULES 6.5, 8.3), the sums of a frame's differences (RULES 4.4), and refusals 12 to 14
 // (RULES 12.1). Values go in and come out.
+#![tactic(auto)]
+
 ghost use Rattle.std.specs.Prelude.{◌≡◌, ◌≤◌};
 ghost use Rattle.stream.specs.Stream.{no_sums, components_of, fresh_stream, is_scored, next_stream, components_shown, memory_refusal};
 
@@ -7,7 +9,7 @@ use score::{Components, MaybeComponents, MaybeScore};
 
 // The whole sums of the differences of a frame's planes with those of the frame before, and the number of pixels: what its components and its score
 // come from.
-#[derive(Drop)]
+#[derive(Clone, Copy)]
 pub struct Sums {
     pub hue: u32,
     pub saturation: u32,
@@ -42,7 +44,7 @@ pub fn components(s: Sums) -> Components
 }
 
 // What both detectors keep of the stream.
-#[derive(Drop)]
+#[derive(Clone, Copy)]
 pub struct Stream {
     pub has_previous: bool,
     pub last_score: MaybeScore,

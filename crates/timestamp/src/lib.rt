@@ -1,22 +1,24 @@
 // Stamps: microseconds as an i64. Durations: microseconds as a u64.
+#![tactic(auto)]
+
 ghost use Rattle.std.specs.Prelude.{◌≡◌, pos, ◌+ℤ◌};
 ghost use Rattle.timestamp.specs.Stamps.{distance, duration_since, saturating_sub};
 
 // A stamp. It is passed whole, so that a proof above this crate reads the number and not its bits.
-#[derive(Drop)]
+#[derive(Clone, Copy)]
 pub struct Timestamp {
     pub micros: i64,
 }
 
 // A stamp that may be missing.
-#[derive(Drop)]
+#[derive(Clone, Copy)]
 pub enum MaybeTimestamp {
     None,
     At(Timestamp),
 }
 
 // How far one stamp is past another.
-#[derive(Drop)]
+#[derive(Clone, Copy)]
 pub enum Since {
     // It is before the other.
     Earlier,

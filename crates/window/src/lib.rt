@@ -1,5 +1,7 @@
 // The window of the adaptive detector (RULES 9.3 to 9.10), `push_and_check` of the Rust's adaptive.rs: which scored frames are cuts. It sees
 // stamps and scores alone, and takes any floats, NaN and infinities among them.
+#![tactic(auto)]
+
 ghost use Rattle.std.specs.Prelude.{◌≡◌, ◌+◌, ◌*◌, ◌<◌, ◌≤◌, length};
 ghost use Rattle.filter.specs.Flash.{flash_filter};
 ghost use Rattle.window.specs.Window.{empty_from, fresh, can_hold, without_oldest, pushed, average, capped, ratio_of, threshold_met, suppressing, counted_from, judged, push_and_check};
@@ -11,7 +13,7 @@ use timestamp::{MaybeTimestamp, Timestamp};
 // The greatest `window_width` (RULES 10.1): 129 places hold the scores on either side, and the target.
 pub const MOST_WINDOW: u32 = 64;
 
-#[derive(Drop)]
+#[derive(Clone, Copy)]
 pub struct WindowOptions {
     pub adaptive_threshold: f64,
     // The least distance from one cut to the next, in microseconds.
@@ -24,7 +26,7 @@ pub struct WindowOptions {
 }
 
 // What the detector keeps from one scored frame to the next. The first `count` places are the window, oldest first.
-#[derive(Drop)]
+#[derive(Clone, Copy)]
 pub struct Window {
     pub stamps: [i64; 129],
     pub scores: [f64; 129],
@@ -36,7 +38,7 @@ pub struct Window {
 }
 
 // The window after a call, and the cut or none.
-#[derive(Drop)]
+#[derive(Clone, Copy)]
 pub struct WindowStep {
     pub window: Window,
     pub cut: MaybeTimestamp,

@@ -1,5 +1,7 @@
 // Numbers, doubles, stamps and values that may be missing as words of 64 bits, and back: what the records that a station lends are written
 // in. Nothing is required of a word: each is read as something. What is written reads back.
+#![tactic(auto)]
+
 ghost use Rattle.std.specs.Prelude.{◌≡◌, true, ◌<◌, ◌%◌, length};
 ghost use Rattle.std.specs.Int.{w64};
 ghost use Rattle.std.proofs.Common.{of_z, to_z};

@@ -1,0 +1,13 @@
+-- `choose::clear_bytes` meets its contract. The invariant: each byte below i is 0.
+use mathlib.Core.Path.{refl}
+use Prim.Native.Nat.{ℕ, ◌≤◌, ◌-◌}
+use native.Mathlib.Omega.{arith}
+use lib.ListN.{length}
+use Rattle.laws.proofs.Tab.{Filled, filled_none, filled_more, filled-all}
+use Rattle.choose.proofs.clear_bytes.Given as goal
+
+abbrev pub invariant-loop-i : goal.invariant-loop-i
+invariant-loop-i l = (l.i ≤ length l.initial.bytes) × Filled 0 (λ (k : ℕ). 0) (length l.initial.bytes) l.i l.bytes
+
+abbrev pub decreases-loop-i : goal.decreases-loop-i
+decreases-loop-i l = length l.initial.bytes - l.i
