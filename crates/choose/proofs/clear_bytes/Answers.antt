@@ -1,4 +1,3 @@
-use Prim.Native.Nat.{◌-◌}
 use native.Mathlib.Omega.{arith}
 use Rattle.laws.proofs.Tab.{filled-all}
 use Rattle.choose.proofs.clear_bytes.Goals as goal

@@ -1,9 +1,7 @@
 -- `choose::clear_bytes` meets its contract. The invariant: each byte below i is 0.
-use mathlib.Core.Path.{refl}
 use Prim.Native.Nat.{ℕ, ◌≤◌, ◌-◌}
-use native.Mathlib.Omega.{arith}
 use lib.ListN.{length}
-use Rattle.laws.proofs.Tab.{Filled, filled_none, filled_more, filled-all}
+use Rattle.laws.proofs.Tab.{Filled}
 use Rattle.choose.proofs.clear_bytes.Given as goal
 
 abbrev pub invariant-loop-i : goal.invariant-loop-i

@@ -2,8 +2,6 @@
 use Prim.Native.Nat.{ℕ, ◌-◌, ◌≤◌, ◌<◌}
 use mathlib.Core.Path.{◌≡◌}
 use lib.IntN.{ℤ, pos, ◌+ℤ◌}
-use mir.Syntax.{w64}
-use mir.ValLaws.{to_z-of_z}
 use Rattle.timestamp.specs.Stamps.{distance}
 use Rattle.laws.proofs.Whole.{whole, sum-read, abs-down, abs-up}
 use Rattle.std.proofs.lemmas.Int.{ints}
@@ -27,7 +25,7 @@ module _ (x y : ℤ) (a b k : ℕ) (p : pos a ≡ x +ℤ pos k) (q : pos b ≡ y
       omega (whole, abs-up x y (omega whole))
 
 pub returns-then-b-a : goal.returns-then-b-a
-returns-then-b-a c = 
+returns-then-b-a c =
     let p : pos c.raised-a.result ≡ c.args.x.micros +ℤ pos 9223372036854775808 = omega (arith, ints) in
     let q : pos c.raised-b.result ≡ c.args.y.micros +ℤ pos 9223372036854775808 = omega (arith, ints) in
     later _ _ _ _ _ p q c.if-b-a.true

@@ -4,8 +4,6 @@ use mathlib.Core.Path.{◌≡◌}
 use mathlib.Core.Bool.{true, false}
 use lib.IntN.{pos, ◌+ℤ◌, ◌-ℤ◌}
 use lib.Signed.{le_z}
-use mir.Syntax.{w64}
-use mir.ValLaws.{to_z-of_z}
 use Rattle.timestamp.specs.declared.Timestamp.{Timestamp}
 use Rattle.timestamp.specs.declared.Since.TheVariants.{Earlier, Micros}
 use Rattle.timestamp.specs.Stamps.{distance, duration_since}
@@ -32,13 +30,13 @@ module _ (ts e : Timestamp) (a b k : ℕ) (p : pos a ≡ ts.micros +ℤ pos k) (
       rw test
 
 pub returns-then-b-a : goal.returns-then-b-a
-returns-then-b-a c = 
+returns-then-b-a c =
     let p : pos c.raised-a.result ≡ c.args.ts.micros +ℤ pos 9223372036854775808 = omega (arith, ints) in
     let q : pos c.raised-b.result ≡ c.args.earlier.micros +ℤ pos 9223372036854775808 = omega (arith, ints) in
     past _ _ _ _ _ p q c.if-b-a.true
 
 pub returns-else-b-a : goal.returns-else-b-a
-returns-else-b-a c = 
+returns-else-b-a c =
     let p : pos c.raised-a.result ≡ c.args.ts.micros +ℤ pos 9223372036854775808 = omega (arith, ints) in
     let q : pos c.raised-b.result ≡ c.args.earlier.micros +ℤ pos 9223372036854775808 = omega (arith, ints) in
     before _ _ _ _ _ p q c.if-b-a.false
