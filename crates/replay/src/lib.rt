@@ -8,7 +8,7 @@ ghost use Rattle.replay.specs.Generator.{next_of, byte_of, shade_of, after, shad
 ghost use Rattle.replay.specs.Digest.{step_of, fed, fed_signed, bits_of, least_first, value_of};
 ghost use Rattle.replay.specs.Digest.{empty as Digest·empty};
 
-use libc::STDOUT_FILENO;
+use std::io;
 
 // The generator's next number.
 pub fn next(x: u32) -> u32
@@ -182,11 +182,7 @@ pub fn value(d: Digest) -> u64
 }
 
 // Prints a name, a number and a number, separated by spaces, and a line feed. No contract can say what is written.
-pub fn print_line(name: &[u8], n: u64, value: u64) {
-    io::write_all(STDOUT_FILENO, name);
-    io::write_all(STDOUT_FILENO, b" ");
-    io::print_decimal(STDOUT_FILENO, n);
-    io::write_all(STDOUT_FILENO, b" ");
-    io::print_decimal(STDOUT_FILENO, value);
-    io::write_all(STDOUT_FILENO, b"\n");
+pub fn print_line(rt: &impl Print, name: &[u8], n: u64, value: u64) -> io::Result<()> {
+    rt.write_all(name)?;
+    println!(rt; " {n} {value}")
 }

@@ -2,12 +2,10 @@
 use mathlib.Core.Path.{◌≡◌, refl, sym, subst}
 use mathlib.Core.Bool.{Bool, true, false, not}
 use Prim.Native.Nat.{ℕ, ◌*◌}
-use borrow.Author.Rules.{rules}
 use borrow.Author.Tests.{eq-eqb}
 use lib.Dec.{T}
 use lib.Ieee.{Float, nan, inf, fin, eq, is_nan, to_bits, binary64, up, down, level}
-use Rattle.replay.proofs.pattern.Statement.{statement}
-use Rattle.replay.proofs.pattern.Tie as tie
+use Rattle.replay.proofs.pattern.Goals as goal
 
 no_nan : (x : Float) → eq x x ≡ true → T (not (is_nan x))
 unfolding eq is_nan
@@ -26,14 +24,5 @@ is-nan (inf true) e = absurd (subst T e tt)
 is-nan (inf false) e = absurd (subst T e tt)
 is-nan (fin s m d) e = absurd (subst T e (subst T (sym (level-self s (m * up d * down d))) tt))
 
-float-to-bits-result : tie.Need-float-to-bits-result
-float-to-bits-result c = no_nan c.before.args.x c.if1.true
-
-returns : tie.Need-returns
-returns c = search rules
-
-returns-2 : tie.Need-returns-2
-returns-2 c = is-nan c.before.args.x c.if1.false
-
-pub pattern-spec : {M : Type 1} → statement M
-pattern-spec = tie.close (tie.spec float-to-bits-result returns returns-2)
+pub returns : goal.returns
+returns c = is-nan c.args.x c.if-x.false
