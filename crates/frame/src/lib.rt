@@ -9,6 +9,7 @@ ghost use Rattle.frame.specs.Checks.{plane_refusal, luma_refusal, bgr_refusal, h
 pub const MOST_SIDE: u32 = 4096;
 
 // Refusals 1 to 3 of a plane whose rows are `row` bytes long.
+#[tactic(auto, unfolding(crate::specs::Checks::plane_refusal))]
 fn plane_refusal(row: usize, bytes: usize, width: u32, height: u32, stride: u32) -> u32
     ensures { result ≡ plane_refusal row bytes width height stride }
 {
@@ -28,6 +29,7 @@ fn plane_refusal(row: usize, bytes: usize, width: u32, height: u32, stride: u32)
 }
 
 // A luma frame, by the length of its plane.
+#[tactic(auto, unfolding(crate::specs::Checks::luma_refusal))]
 pub fn luma_refusal(bytes: usize, width: u32, height: u32, stride: u32) -> u32
     ensures { result ≡ luma_refusal bytes width height stride }
 {
@@ -35,6 +37,7 @@ pub fn luma_refusal(bytes: usize, width: u32, height: u32, stride: u32) -> u32
 }
 
 // A BGR frame, by the length of its packed pixels.
+#[tactic(auto, unfolding(crate::specs::Checks::bgr_refusal))]
 pub fn bgr_refusal(bytes: usize, width: u32, height: u32, stride: u32) -> u32
     ensures { result ≡ bgr_refusal bytes width height stride }
 {
@@ -42,6 +45,7 @@ pub fn bgr_refusal(bytes: usize, width: u32, height: u32, stride: u32) -> u32
 }
 
 // An HSV frame, by the lengths of its planes.
+#[tactic(auto, unfolding(crate::specs::Checks::plane_refusal, crate::specs::Checks::luma_refusal, crate::specs::Checks::hsv_refusal))]
 pub fn hsv_refusal(
     hue: usize,
     saturation: usize,
