@@ -1,4 +1,0 @@
-pub mod Locals
-pub mod OnePlane
-pub mod Parts
-pub mod ThreePlanes
