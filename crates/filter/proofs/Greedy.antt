@@ -90,8 +90,8 @@ module _ (o : FilterOptions) where
   module _ (mode : o.filter_mode ≡ Suppress) where
     step_is : (φ : Filter) (t : Timestamp) (f : Frame) (fs : List Frame) (b : Bool) → hit t f ≡ b → cuts_from o (counting φ t) (f ∷ fs) ≡ further φ t f fs b
     unfolding flash_filter seeded suppressed min_length_met
-    step_is φ t f fs true e = rw (mode, e)
-    step_is φ t f fs false e = rw (mode, e)
+    step_is φ t f fs true e = simp (mode, e)
+    step_is φ t f fs false e = simp (mode, e)
 
     picked : (φ : Filter) (t : Timestamp) (fs : List Frame) → Picked t fs (cuts_from o (counting φ t) fs)
     picked φ t [] = record { chosen = []; choice = none; are-cuts = refl; above = tt; chain = tt }

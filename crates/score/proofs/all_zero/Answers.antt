@@ -2,12 +2,8 @@
 use mathlib.Core.Path.{refl}
 use lib.Ieee.{of_int, of_bits}
 use Rattle.score.specs.Settings.{all_zero}
-use Rattle.score.proofs.all_zero.Statement.{statement}
-use Rattle.score.proofs.all_zero.Tie as tie
+use Rattle.score.proofs.all_zero.Goals as goal
 
-returns : tie.Need-returns
+pub returns : goal.returns
 unfolding all_zero of_int of_bits
 returns c = refl
-
-pub all-zero-spec : {M : Type 1} → statement M
-all-zero-spec = tie.close (tie.spec returns)

@@ -12,9 +12,7 @@ use Rattle.timestamp.specs.Stamps.{distance, duration_since}
 use Rattle.laws.proofs.Whole.{whole, sum-read, minus-read, nat_abs-read}
 use Rattle.filter.specs.declared.FilterOptions.{FilterOptions}
 use Rattle.filter.specs.Flash.{min_length_met}
-use borrow.Author.Rules.{rules}
-use Rattle.filter.proofs.min_length_met.Statement.{statement}
-use Rattle.filter.proofs.min_length_met.Tie as tie
+use Rattle.filter.proofs.min_length_met.Goals as goal
 
 -- d or more
 abbrev lasts : ℕ → Since → Bool
@@ -41,21 +39,8 @@ met-is : (o : FilterOptions) (last ts : Timestamp) → lasts o.min_duration (dur
 unfolding duration_since distance min_length_met
 met-is o last ts = by_order last.micros ts.micros o.min_duration (le_z last.micros ts.micros) refl
 
-duration-since-requires : tie.Need-duration-since-requires
-duration-since-requires c κs = search rules
+pub returns-in-Earlier : goal.returns-in-Earlier
+returns-in-Earlier c = ap (lasts _) (sym c.in-Earlier.is ∙ c.duration_since.ensures) ∙ met-is _ _ _
 
-enum_told : tie.Need-enum-told
-enum_told c = search rules
-
-enum-known-n : tie.Need-enum-known-n
-enum-known-n c = search rules
-
-returns : tie.Need-returns
-returns c = ap (lasts _) (sym c.enum_told.given.1 ∙ c.before.before.duration-since.ensures) ∙ met-is _ _ _
-
-returns-2 : tie.Need-returns-2
-returns-2 c = ap (lasts _) (sym c.before.before.n.given.1 ∙ c.before.before.before.before.duration-since.ensures) ∙ met-is _ _ _
-
-pub min-length-met-spec : {M : Type 1} → statement M
-min-length-met-spec =
-    tie.close (tie.spec duration-since-requires enum_told enum-known-n returns returns-2)
+pub returns-in-Micros : goal.returns-in-Micros
+returns-in-Micros c = ap (lasts _) (sym c.in-Micros.is ∙ c.duration_since.ensures) ∙ met-is _ _ _

@@ -5,9 +5,7 @@ use Rattle.timestamp.specs.declared.Timestamp.{Timestamp}
 use Rattle.timestamp.specs.declared.MaybeTimestamp.TheVariants.{None, At}
 use Rattle.filter.specs.declared.Filter.{Filter}
 use Rattle.filter.specs.Flash.{step_to, advanced, merge_free}
-use borrow.Author.Rules.{rules}
-use Rattle.filter.proofs.merge_free.Statement.{statement}
-use Rattle.filter.proofs.merge_free.Tie as tie
+use Rattle.filter.proofs.merge_free.Goals as goal
 
 -- what a frame is answered while no merge is triggered, by the tests
 module _ (f : Filter) (last ts : Timestamp) (above met : Bool) where
@@ -31,26 +29,15 @@ module _ (f : Filter) (last ts : Timestamp) (above met : Bool) where
   unfolding merge_free
   below t a = cc
 
-returns : tie.Need-returns
-returns c = cuts _ _ _ _ _ c.before.if1.true c.if2.true
+pub returns-then-met : goal.returns-then-met
+returns-then-met c = cuts _ _ _ _ _ c.if-above.true c.if-met.true
 
-returns-2 : tie.Need-returns-2
-returns-2 c = triggers _ _ _ _ _ c.before.before.if1.true c.before.if2.false c.if3.true
+pub returns-then-f : goal.returns-then-f
+returns-then-f c = triggers _ _ _ _ _ c.if-above.true c.if-met.false c.if-f.true
 
-step-to-requires : tie.Need-step-to-requires
-step-to-requires c κs = search rules
+pub returns-then-above : goal.returns-then-above
+returns-then-above c =
+    c.step_to.ensures ∙ too-early _ _ _ _ _ c.requires c.if-above.true c.if-met.false c.if-f.false
 
-returns-3 : tie.Need-returns-3
-returns-3 c =
-    let s = c.before.before.before.before in
-    c.step-to.ensures ∙ too-early _ _ _ _ _ s.requires c.before.before.before.if1.true c.before.before.if2.false c.before.if3.false
-
-step-to-requires-2 : tie.Need-step-to-requires-2
-step-to-requires-2 c κs = search rules
-
-returns-4 : tie.Need-returns-4
-returns-4 c = c.step-to2.ensures ∙ below _ _ _ _ _ c.before.before.requires c.before.if1.false
-
-pub merge-free-spec : {M : Type 1} → statement M
-merge-free-spec =
-    tie.close (tie.spec returns returns-2 step-to-requires returns-3 step-to-requires-2 returns-4)
+pub returns : goal.returns
+returns c = c.step_to-2.ensures ∙ below _ _ _ _ _ c.requires c.if-above.false
