@@ -1,4 +1,4 @@
-// The marks of the medians 0 to 255, as two tables for people to read: a line has sixteen marks, after the median of the first.
+// The marks of the medians 0 to 255, as two tables for people to read: a line has sixteen marks, below the median of the first.
 ghost use Rattle.std.specs.Prelude.{◌≡◌};
 ghost use Rattle.laws.specs.Lists.{tabulate};
 ghost use Rattle.canny_marks.specs.Marks.{low_mark, high_mark};

@@ -2,12 +2,8 @@
 use mathlib.Core.Path.{refl}
 use Rattle.laws.specs.Lists.{tabulate}
 use Rattle.canny_marks.specs.Marks.{low_mark}
-use Rattle.canny_marks.proofs.table.low_marks.Statement.{statement}
-use Rattle.canny_marks.proofs.table.low_marks.Tie as tie
+use Rattle.canny_marks.proofs.table.low_marks.Goals as goal
 
-returns : tie.Need-returns
+pub returns : goal.returns
 unfolding tabulate low_mark
 returns c = refl
-
-pub low-marks-spec : {M : Type 1} → statement M
-low-marks-spec = tie.close (tie.spec returns)

@@ -2,12 +2,8 @@
 use mathlib.Core.Path.{refl}
 use Rattle.laws.specs.Lists.{tabulate}
 use Rattle.canny_marks.specs.Marks.{high_mark}
-use Rattle.canny_marks.proofs.table.high_marks.Statement.{statement}
-use Rattle.canny_marks.proofs.table.high_marks.Tie as tie
+use Rattle.canny_marks.proofs.table.high_marks.Goals as goal
 
-returns : tie.Need-returns
+pub returns : goal.returns
 unfolding tabulate high_mark
 returns c = refl
-
-pub high-marks-spec : {M : Type 1} → statement M
-high-marks-spec = tie.close (tie.spec returns)
