@@ -1,0 +1,11 @@
+-- `arch_planes::copy_row` meets its contract. The invariant: i is at most the length, and dst has src's bytes at each place below i.
+use Prim.Native.Nat.{◌≤◌, ◌-◌}
+use lib.ListN.{length, get_or}
+use Rattle.laws.proofs.Tab.{Filled}
+use Rattle.arch_planes.proofs.copy_row.Given as goal
+
+abbrev pub invariant-loop-i : goal.invariant-loop-i
+invariant-loop-i l = (l.i ≤ length l.src) × Filled 0 (λ k. get_or l.src k 0) (length l.src) l.i l.dst
+
+abbrev pub decreases-loop-i : goal.decreases-loop-i
+decreases-loop-i l = length l.src - l.i
