@@ -1,10 +1,10 @@
 -- A whole line: each way in which it is no frame line, and what a frame line says.
 use mathlib.Core.Path.{◌≡◌, refl, sym, ap, ◌∙◌}
-use mathlib.Core.Bool.{Bool, true, false, not, true≢false, and-false}
+use mathlib.Core.Bool.{Bool, true, false, true≢false, and-false}
 use mathlib.Core.List.{List, [], ◌∷◌, map}
 use Prim.Native.Nat.{ℕ, ◌-◌, ◌*◌, ◌≤◌, ◌<◌}
 use native.Mathlib.Omega.{arith}
-use borrow.Author.Tests.{le-leb, lt-leb, not-true, not-false}
+use borrow.Author.Tests.{le-leb, lt-leb}
 use lib.Dec.{leb}
 use lib.ListN.{length, take}
 use Rattle.decimal.specs.declared.Stamp.{Stamp}
@@ -126,14 +126,13 @@ module _ (line s : List ℕ) (w h : Field) (S : Sides line s w h) where
   pub pixels-missed : 1024 < w.value * h.value → is_frame_line line ≡ false
   pixels-missed more = no-pixels line s S.width S.height (fields_after line h.«end») S.head (rw (S.across, S.down) at more)
 
-  pub values-missed : (r : Bool) → r ≡ are_values (w.value * h.value) (fields_after line h.«end») → not r ≡ true → is_frame_line line ≡ false
-  values-missed r are bad = no-values line s S.width S.height (fields_after line h.«end») S.head (sym (rw (S.across, S.down) at are) ∙ not-true r bad)
+  pub values-missed : (r : Bool) → r ≡ are_values (w.value * h.value) (fields_after line h.«end») → r ≡ false → is_frame_line line ≡ false
+  values-missed r are bad = no-values line s S.width S.height (fields_after line h.«end») S.head (sym (rw (S.across, S.down) at are) ∙ bad)
 
   pub says-sides : (luma : List ℕ) (stamp : Timestamp) (r : Bool) → length line ≤ 8192 → is_stamp s ≡ true → stamp ≡ record { micros = stamp_of s } → w.value * h.value ≤ 1024
-      → r ≡ are_values (w.value * h.value) (fields_after line h.«end») → (r ≡ true → take (w.value * h.value) luma ≡ map number (fields_after line h.«end»)) → not r ≡ false
+      → r ≡ are_values (w.value * h.value) (fields_after line h.«end») → (r ≡ true → take (w.value * h.value) luma ≡ map number (fields_after line h.«end»)) → r ≡ true
       → Says line luma (record { is_frame = true; stamp = stamp; width = w.value; height = h.value })
-  says-sides luma stamp r short is p pixels are same good =
-      let ok = not-false r good in
+  says-sides luma stamp r short is p pixels are same ok =
       rw (p, S.across, S.down)
       (says-frame line s S.width S.height (fields_after line h.«end») S.head luma short is S.wide S.high (rw (S.across, S.down) at pixels)
       (sym (rw (S.across, S.down) at are) ∙ ok) (rw (S.across, S.down) at (same ok)))
