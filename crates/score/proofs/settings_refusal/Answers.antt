@@ -1,7 +1,6 @@
 -- `score::settings_refusal` meets its contract: each return is the first row whose condition holds.
-use mathlib.Core.Path.{◌≡◌, sym, ◌∙◌}
-use mathlib.Core.Bool.{false}
-use Rattle.score.specs.Settings.{any_too_heavy, all_zero, bad_kernel, settings_refusal}
+use mathlib.Core.Path.{sym, ◌∙◌}
+use Rattle.score.specs.Settings.{settings_refusal}
 use Rattle.score.proofs.settings_refusal.Goals as goal
 
 pub returns-then-any_too_heavy : goal.returns-then-any_too_heavy

@@ -4,8 +4,7 @@ use mathlib.Core.Bool.{true, false}
 use lib.Ieee.{Float, nan, inf, fin, lt, is_nan, of_int, of_bits}
 use Rattle.laws.specs.Floats.{float}
 use Rattle.window.specs.Window.{capped}
-use Rattle.window.proofs.cap.Statement.{statement}
-use Rattle.window.proofs.cap.Tie as tie
+use Rattle.window.proofs.cap.Goals as goal
 
 below : (q : Float) → lt q (float 255) ≡ true → q ≡ capped q
 unfolding capped is_nan lt
@@ -19,13 +18,10 @@ not-below nan h = refl
 not-below (inf s) h = rw h
 not-below (fin s m e) h = rw h
 
-returns : tie.Need-returns
+pub returns-then-q : goal.returns-then-q
 unfolding of_int of_bits
-returns c = below _ c.if1.true
+returns-then-q c = below _ c.if-q.true
 
-returns-2 : tie.Need-returns-2
+pub returns : goal.returns
 unfolding of_int of_bits
-returns-2 c = not-below _ c.if1.false
-
-pub cap-spec : {M : Type 1} → statement M
-cap-spec = tie.close (tie.spec returns returns-2)
+returns c = not-below _ c.if-q.false

@@ -6,9 +6,7 @@ use Rattle.laws.specs.Floats.{float}
 use Rattle.score.specs.Floats.{abs_of}
 use Rattle.window.specs.declared.WindowOptions.{WindowOptions}
 use Rattle.window.specs.Window.{tiny, capped, ratio_of}
-use borrow.Author.Rules.{rules}
-use Rattle.window.proofs.adaptive_ratio.Statement.{statement}
-use Rattle.window.proofs.adaptive_ratio.Tie as tie
+use Rattle.window.proofs.adaptive_ratio.Goals as goal
 
 module _ (o : WindowOptions) (target avg : Float) where
   full : lt (abs_of avg) tiny ≡ true → le o.min_content_val target ≡ true → float 255 ≡ ratio_of o target avg
@@ -23,23 +21,14 @@ module _ (o : WindowOptions) (target avg : Float) where
   unfolding ratio_of
   quotient a = rw a
 
-abs-requires : tie.Need-abs-requires
-abs-requires c κs = search rules
-
-returns : tie.Need-returns
+pub returns-then-target-o : goal.returns-then-target-o
 unfolding div of_int of_bits
-returns c = full _ _ _ (rw c.before.before.before.abs.ensures at c.before.before.if1.true) c.if2.true
+returns-then-target-o c = full _ _ _ (rw c.abs.ensures at c.if-abs.true) c.if-target-o.true
 
-returns-2 : tie.Need-returns-2
+pub returns-then-abs : goal.returns-then-abs
 unfolding div of_int of_bits
-returns-2 c = nothing _ _ _ (rw c.before.before.before.abs.ensures at c.before.before.if1.true) c.if2.false
+returns-then-abs c = nothing _ _ _ (rw c.abs.ensures at c.if-abs.true) c.if-target-o.false
 
-cap-requires : tie.Need-cap-requires
-cap-requires c κs = search rules
-
-returns-3 : tie.Need-returns-3
+pub returns : goal.returns
 unfolding div of_int of_bits
-returns-3 c = c.cap.ensures ∙ quotient _ _ _ (rw c.before.before.abs.ensures at c.before.if1.false)
-
-pub adaptive-ratio-spec : {M : Type 1} → statement M
-adaptive-ratio-spec = tie.close (tie.spec abs-requires returns returns-2 cap-requires returns-3)
+returns c = c.cap.ensures ∙ quotient _ _ _ (rw c.abs.ensures at c.if-abs.false)

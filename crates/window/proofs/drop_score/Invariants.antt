@@ -1,0 +1,14 @@
+-- `window::drop_score` meets its contract. Assumes nothing.
+use Prim.Native.Nat.{◌≤◌, ◌-◌}
+use mathlib.Core.Path.{◌≡◌, ap}
+use native.Mathlib.Omega.{arith}
+use lib.Ieee.{nan}
+use Rattle.window.specs.Window.{without_oldest}
+use Rattle.window.proofs.Shifted.{shift_none, shift-more}
+use Rattle.window.proofs.drop_score.Given as goal
+
+abbrev pub invariant-loop-i : goal.invariant-loop-i
+invariant-loop-i l = (l.i ≤ l.n) × (l.xs ≡ without_oldest l.i l.initial.xs)
+
+abbrev pub decreases-loop-i : goal.decreases-loop-i
+decreases-loop-i l = l.n - l.i
