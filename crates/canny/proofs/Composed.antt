@@ -3,7 +3,7 @@ use mathlib.Core.Path.{◌≡◌, sym, ◌∙◌}
 use mathlib.Core.List.{List}
 use Prim.Native.Nat.{ℕ, ◌*◌, ◌≤◌, ◌<◌}
 use lib.IntN.{ℤ}
-use lib.ListN.{length, replicate, length-replicate, get_or-replicate}
+use lib.ListN.{replicate, length-replicate, get_or-replicate}
 use borrow.Author.Tests.{lt-ltb, le-ltb}
 use Rattle.laws.specs.Lists.{tabulate}
 use Rattle.laws.proofs.Tab.{is-tabulate}
@@ -27,14 +27,17 @@ unfolding strong_plane class_plane
 strong-is luma dir classes out mag w h m low high p q r a b c d = cc
 
 module _ (luma out : List ℕ) (w h k : ℕ) where
-  pub narrow-is : w < 3 → length out ≡ w * h → out ≡ tabulate {A = ℕ} (length out) (λ _. 0) → out ≡ edge_plane luma w h k
+  pub narrow-is : {n : ℕ} → w < 3 → n ≡ w * h → out ≡ tabulate {A = ℕ} n (λ _. 0) → out ≡ edge_plane luma w h k
   unfolding edge_plane
   narrow-is a n e = rw (lt-ltb w 3 a) ((rw n at e) ∙ cleared (w * h))
 
-  pub low-is : 3 ≤ w → h < 3 → length out ≡ w * h → out ≡ tabulate {A = ℕ} (length out) (λ _. 0) → out ≡ edge_plane luma w h k
+  pub low-is : {n : ℕ} → 3 ≤ w → h < 3 → n ≡ w * h → out ≡ tabulate {A = ℕ} n (λ _. 0) → out ≡ edge_plane luma w h k
   unfolding edge_plane
   low-is a b n e = rw (le-ltb w 3 a, lt-ltb h 3 b) ((rw n at e) ∙ cleared (w * h))
 
-  pub edge-is : (s : List ℕ) → 3 ≤ w → 3 ≤ h → s ≡ strong_plane luma w h → out ≡ dilated s w h k → out ≡ edge_plane luma w h k
+  pub edge-is : {s : List ℕ} → 3 ≤ w → 3 ≤ h → s ≡ strong_plane luma w h → out ≡ dilated s w h k → out ≡ edge_plane luma w h k
   unfolding edge_plane
-  edge-is s a b p e = rw (le-ltb w 3 a, le-ltb h 3 b, ← p) e
+  edge-is a b p e = rw (le-ltb w 3 a, le-ltb h 3 b, ← p) e
+
+-- what each branch of `edge_plane` cites
+pub ruleset branches = (narrow-is, low-is, edge-is)

@@ -19,6 +19,7 @@ fn strong_plane(luma: &[u8], mag: &mut [i32], edges: &mut [u8], w: usize, h: usi
 }
 
 // The edge plane, with a window of k × k. mag is scratch: it keeps its length, and its contents afterwards are left open.
+#[tactic(auto, using(crate::proofs::Composed::branches))]
 pub fn edge_plane(luma: &[u8], mag: &mut [i32], edges: &mut [u8], w: usize, h: usize, k: u32)
     requires w_bound { (w ≤ 4096) × (h ≤ 4096) }
     requires luma_len { length luma.now ≡ w * h }
