@@ -8,7 +8,7 @@ use native.Mathlib.Omega.{arith}
 use lib.ListN.{take, drop, get_or, set}
 use Rattle.laws.proofs.Parts.{get_d_part}
 use Rattle.laws.proofs.Tab.{Filled}
-use Rattle.arch_hsv.specs.Hsv.{rounded, value, delta}
+use Rattle.arch_hsv.specs.Hsv.{rounded, value, delta, hue, saturation}
 use Rattle.arch_hsv.specs.Rows.{of_pixel, row_stored}
 use Rattle.arch_hsv.specs.Blocks.{sixths, FirstAre, Bounded, parts_stored}
 use Rattle.arch_hsv.proofs.Reading.{spread}
@@ -59,7 +59,7 @@ module _ (out row p : List ℕ) (first n x : ℕ) where
   row-joined zero h = rw (add-zero x)
   row-joined (suc m) h =
       let at : first + x + m ≡ first + (x + m) = add_assoc first x m in
-      rw (add-suc x m, row-joined m (λ F j b. h F j (omega arith)), at, h _ m (omega arith), h _ m (omega arith), h _ m (omega arith))
+      rw (add-suc x m, row-joined m (λ F j b. h F j (omega arith)), at, h hue m (omega arith), h saturation m (omega arith), h value m (omega arith))
 
 -- pixel j of the part that starts at pixel x
 pub part_same : (row : List ℕ) (x m : ℕ) (F : ℕ → ℕ → ℕ → ℕ) (j : ℕ) → j < m → of_pixel F (take (3 * m) (drop (3 * x) row)) j ≡ of_pixel F row (x + j)

@@ -1,12 +1,8 @@
 -- `arch_hsv::table::reciprocals` meets its contract: the rule is a test at each of the 256 entries, which antt computes. Assumes nothing.
 use mathlib.Core.Path.{refl}
 use Rattle.arch_hsv.proofs.Reciprocal.{right, reciprocals-at}
-use Rattle.arch_hsv.proofs.table.reciprocals.Statement.{statement}
-use Rattle.arch_hsv.proofs.table.reciprocals.Tie as tie
+use Rattle.arch_hsv.proofs.table.reciprocals.Goals as goal
 
-returns : tie.Need-returns
+pub returns : goal.returns
 unfolding right
 returns c = reciprocals-at _ tt refl
-
-pub reciprocals-spec : {M : Type 1} → statement M
-reciprocals-spec = tie.close (tie.spec returns)
