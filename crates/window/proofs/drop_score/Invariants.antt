@@ -1,10 +1,7 @@
 -- `window::drop_score` meets its contract. Assumes nothing.
 use Prim.Native.Nat.{◌≤◌, ◌-◌}
-use mathlib.Core.Path.{◌≡◌, ap}
-use native.Mathlib.Omega.{arith}
-use lib.Ieee.{nan}
+use mathlib.Core.Path.{◌≡◌}
 use Rattle.window.specs.Window.{without_oldest}
-use Rattle.window.proofs.Shifted.{shift_none, shift-more}
 use Rattle.window.proofs.drop_score.Given as goal
 
 abbrev pub invariant-loop-i : goal.invariant-loop-i

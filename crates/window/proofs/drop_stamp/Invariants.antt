@@ -1,14 +1,7 @@
 -- `window::drop_stamp` meets its contract. Assumes nothing.
-use Prim.Native.Nat.{◌+◌, ◌≤◌, ◌-◌}
-use mathlib.Core.Path.{◌≡◌, ap}
-use native.Mathlib.Omega.{arith}
-use mir.Syntax.{w64}
-use mir.Val.{to_z, of_z}
-use lib.IntN.{pos}
-use lib.ListN.{get_or}
-use borrow.Author.Rules.{rules}
+use Prim.Native.Nat.{◌≤◌, ◌-◌}
+use mathlib.Core.Path.{◌≡◌}
 use Rattle.window.specs.Window.{without_oldest}
-use Rattle.window.proofs.Shifted.{shift_none, shift-more}
 use Rattle.window.proofs.drop_stamp.Given as goal
 
 abbrev pub invariant-loop-i : goal.invariant-loop-i

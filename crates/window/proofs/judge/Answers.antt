@@ -11,8 +11,6 @@ use Rattle.window.proofs.judge.Goals as goal
 
 pub returns : goal.returns
 returns c =
-    let a = c in
-    let s = a in
-    let z : ℤ = get_or s.args.s.stamps s.args.middle (pos 0) in
+    let z : ℤ = get_or c.args.s.stamps c.args.middle (pos 0) in
     let back : to_z w64 (of_z w64 z) ≡ z = search rules in
-    judge-is _ _ _ _ _ _ _ _ (ap (λ (t : ℤ). record { micros = t }) (back ∙ ap (λ k. get_or s.args.s.stamps k (pos 0)) s.requires.1)) (ap (λ k. get_or s.args.s.scores k nan) s.requires.1) a.average_of.ensures c.adaptive_ratio-ratio.ensures c.threshold_met.ensures c.gate-step.ensures
+    judge-is _ _ _ _ _ _ _ _ (ap (λ (t : ℤ). record { micros = t }) (back ∙ ap (λ k. get_or c.args.s.stamps k (pos 0)) c.requires.1)) (ap (λ k. get_or c.args.s.scores k nan) c.requires.1) c.average_of.ensures c.adaptive_ratio-ratio.ensures c.threshold_met.ensures c.gate-step.ensures
