@@ -14,8 +14,8 @@ ghost use Rattle.content.specs.Step.{called};
 ghost use Rattle.adaptive.specs.Step.{called as adaptive_called};
 
 use frame_records::{HsvFrame, LumaFrame, RgbFrame};
-use libc::STDOUT_FILENO;
 use score::Components;
+use std::io;
 use stream::Sums;
 use timestamp::{MaybeTimestamp, Since, Timestamp};
 
@@ -163,49 +163,45 @@ fn adaptive_hsv<'a>(
     }
 }
 
-// Prints a space and a number.
-fn show_number(n: u32) {
-    io::write_all(STDOUT_FILENO, b" ");
-    io::print_decimal(STDOUT_FILENO, n as u64);
-}
-
-// Prints the four sums and the count.
-fn show_sums(s: Sums) {
-    show_number(s.hue);
-    show_number(s.saturation);
-    show_number(s.luma);
-    show_number(s.edges);
-    show_number(s.count);
+// Prints the four sums and the count, each after a space.
+fn show_sums(rt: &impl Print, s: Sums) -> io::Result<()> {
+    print!(rt;
+        " {} {} {} {} {}",
+        s.hue, s.saturation, s.luma, s.edges, s.count
+    )
 }
 
 // Prints a stamp that is not before 0.
-fn show_cut(ts: Timestamp) {
+fn show_cut(rt: &impl Print, ts: Timestamp) -> io::Result<()> {
     let zero = Timestamp { micros: 0 };
     match timestamp::duration_since(ts, zero) {
-        Since::Earlier => {}
-        Since::Micros(n) => {
-            io::write_all(STDOUT_FILENO, b"cut ");
-            io::print_decimal(STDOUT_FILENO, n);
-            io::write_all(STDOUT_FILENO, b"\n");
-        }
+        Since::Earlier => Ok(()),
+        Since::Micros(n) => println!(rt; "cut {n}"),
     }
 }
 
 // Prints a frame's line, and the cut below it.
-fn show(name: &[u8], number: u32, answer: u32, sums: Sums, cut: MaybeTimestamp) {
-    io::write_all(STDOUT_FILENO, name);
-    show_number(number);
-    show_number(answer);
-    show_sums(sums);
-    io::write_all(STDOUT_FILENO, b"\n");
+fn show(
+    rt: &impl Print,
+    name: &[u8],
+    number: u32,
+    answer: u32,
+    sums: Sums,
+    cut: MaybeTimestamp,
+) -> io::Result<()> {
+    rt.write_all(name)?;
+    print!(rt; " {number} {answer}")?;
+    show_sums(rt, sums)?;
+    println!(rt;)?;
     match cut {
-        MaybeTimestamp::None => {}
-        MaybeTimestamp::At(ts) => show_cut(ts),
+        MaybeTimestamp::None => Ok(()),
+        MaybeTimestamp::At(ts) => show_cut(rt, ts),
     }
 }
 
 // A luma frame of that width and stride, and of height 3.
 fn content_luma_shown(
+    rt: &impl Print,
     d: content::Detector,
     plane: &[u8],
     width: u32,
@@ -213,18 +209,19 @@ fn content_luma_shown(
     store: &mut [u8],
     scratch: &mut [u8],
     magnitudes: &mut [i32],
-) -> content::Detector {
+) -> io::Result<content::Detector> {
     let ts = Timestamp { micros };
     let fed = content_luma(d, plane, width, 3, width, ts, store, scratch, magnitudes);
     let a = fed.answer;
     let sums = a.sums;
     let cut = a.cut;
-    show(b"content luma", fed.number, a.number, sums, cut);
-    a.detector
+    show(rt, b"content luma", fed.number, a.number, sums, cut)?;
+    Ok(a.detector)
 }
 
 // A BGR frame of 2 × 2 pixels.
 fn content_bgr_shown(
+    rt: &impl Print,
     d: content::Detector,
     pixels: &[u8],
     stride: u32,
@@ -232,18 +229,19 @@ fn content_bgr_shown(
     store: &mut [u8],
     scratch: &mut [u8],
     magnitudes: &mut [i32],
-) -> content::Detector {
+) -> io::Result<content::Detector> {
     let ts = Timestamp { micros };
     let fed = content_bgr(d, pixels, 2, 2, stride, ts, store, scratch, magnitudes);
     let a = fed.answer;
     let sums = a.sums;
     let cut = a.cut;
-    show(b"content bgr", fed.number, a.number, sums, cut);
-    a.detector
+    show(rt, b"content bgr", fed.number, a.number, sums, cut)?;
+    Ok(a.detector)
 }
 
 // An HSV frame of 3 × 3 pixels.
 fn content_hsv_shown<'a>(
+    rt: &impl Print,
     d: content::Detector,
     hue: &'a [u8],
     saturation: &'a [u8],
@@ -252,7 +250,7 @@ fn content_hsv_shown<'a>(
     store: &mut [u8],
     scratch: &mut [u8],
     magnitudes: &mut [i32],
-) -> content::Detector {
+) -> io::Result<content::Detector> {
     let ts = Timestamp { micros };
     let fed = content_hsv(
         d, hue, saturation, value, 3, 3, 3, ts, store, scratch, magnitudes,
@@ -260,12 +258,13 @@ fn content_hsv_shown<'a>(
     let a = fed.answer;
     let sums = a.sums;
     let cut = a.cut;
-    show(b"content hsv", fed.number, a.number, sums, cut);
-    a.detector
+    show(rt, b"content hsv", fed.number, a.number, sums, cut)?;
+    Ok(a.detector)
 }
 
 // A luma frame of that width and stride, and of height 3.
 fn adaptive_luma_shown(
+    rt: &impl Print,
     d: adaptive::Detector,
     plane: &[u8],
     width: u32,
@@ -273,18 +272,19 @@ fn adaptive_luma_shown(
     store: &mut [u8],
     scratch: &mut [u8],
     magnitudes: &mut [i32],
-) -> adaptive::Detector {
+) -> io::Result<adaptive::Detector> {
     let ts = Timestamp { micros };
     let fed = adaptive_luma(d, plane, width, 3, width, ts, store, scratch, magnitudes);
     let a = fed.answer;
     let sums = a.sums;
     let cut = a.cut;
-    show(b"adaptive luma", fed.number, a.number, sums, cut);
-    a.detector
+    show(rt, b"adaptive luma", fed.number, a.number, sums, cut)?;
+    Ok(a.detector)
 }
 
 // A BGR frame of 2 × 2 pixels.
 fn adaptive_bgr_shown(
+    rt: &impl Print,
     d: adaptive::Detector,
     pixels: &[u8],
     stride: u32,
@@ -292,18 +292,19 @@ fn adaptive_bgr_shown(
     store: &mut [u8],
     scratch: &mut [u8],
     magnitudes: &mut [i32],
-) -> adaptive::Detector {
+) -> io::Result<adaptive::Detector> {
     let ts = Timestamp { micros };
     let fed = adaptive_bgr(d, pixels, 2, 2, stride, ts, store, scratch, magnitudes);
     let a = fed.answer;
     let sums = a.sums;
     let cut = a.cut;
-    show(b"adaptive bgr", fed.number, a.number, sums, cut);
-    a.detector
+    show(rt, b"adaptive bgr", fed.number, a.number, sums, cut)?;
+    Ok(a.detector)
 }
 
 // An HSV frame of 3 × 3 pixels.
 fn adaptive_hsv_shown<'a>(
+    rt: &impl Print,
     d: adaptive::Detector,
     hue: &'a [u8],
     saturation: &'a [u8],
@@ -312,7 +313,7 @@ fn adaptive_hsv_shown<'a>(
     store: &mut [u8],
     scratch: &mut [u8],
     magnitudes: &mut [i32],
-) -> adaptive::Detector {
+) -> io::Result<adaptive::Detector> {
     let ts = Timestamp { micros };
     let fed = adaptive_hsv(
         d, hue, saturation, value, 3, 3, 3, ts, store, scratch, magnitudes,
@@ -320,12 +321,19 @@ fn adaptive_hsv_shown<'a>(
     let a = fed.answer;
     let sums = a.sums;
     let cut = a.cut;
-    show(b"adaptive hsv", fed.number, a.number, sums, cut);
-    a.detector
+    show(rt, b"adaptive hsv", fed.number, a.number, sums, cut)?;
+    Ok(a.detector)
 }
 
 // Nine frames to the content detector, with edges on: planes of 9 bytes, and `few` of 8. `side` has an edge between its first two columns.
-fn content_run<'a>(dark: &'a [u8], lit: &'a [u8], tint: &'a [u8], side: &'a [u8], few: &'a [u8]) {
+fn content_run<'a>(
+    rt: &impl Print,
+    dark: &'a [u8],
+    lit: &'a [u8],
+    tint: &'a [u8],
+    side: &'a [u8],
+    few: &'a [u8],
+) -> io::Result<()> {
     let mut store = [0u8; 36];
     let mut work = [0u8; 69];
     let mut mags = [0i32; 9];
@@ -337,80 +345,113 @@ fn content_run<'a>(dark: &'a [u8], lit: &'a [u8], tint: &'a [u8], side: &'a [u8]
     };
     let settled = content::try_new(content::Options::new().with_weights(even));
     let d = settled.detector;
-    let d = content_luma_shown(d, dark, 3, 0, &mut store, &mut work, &mut mags);
-    let d = content_luma_shown(d, few, 3, 400000, &mut store, &mut work, &mut mags);
-    let d = content_luma_shown(d, side, 4097, 400000, &mut store, &mut work, &mut mags);
-    let d = content_luma_shown(d, side, 3, 400000, &mut store, &mut work, &mut mags);
-    let d = content_luma_shown(d, side, 3, 900000, &mut store, &mut work, &mut mags);
-    let d = content_hsv_shown(d, tint, few, lit, 1500000, &mut store, &mut work, &mut mags);
+    let d = content_luma_shown(rt, d, dark, 3, 0, &mut store, &mut work, &mut mags)?;
+    let d = content_luma_shown(rt, d, few, 3, 400000, &mut store, &mut work, &mut mags)?;
+    let d = content_luma_shown(rt, d, side, 4097, 400000, &mut store, &mut work, &mut mags)?;
+    let d = content_luma_shown(rt, d, side, 3, 400000, &mut store, &mut work, &mut mags)?;
+    let d = content_luma_shown(rt, d, side, 3, 900000, &mut store, &mut work, &mut mags)?;
     let d = content_hsv_shown(
-        d, tint, side, few, 1500000, &mut store, &mut work, &mut mags,
-    );
+        rt, d, tint, few, lit, 1500000, &mut store, &mut work, &mut mags,
+    )?;
     let d = content_hsv_shown(
-        d, tint, side, lit, 1500000, &mut store, &mut work, &mut mags,
-    );
+        rt, d, tint, side, few, 1500000, &mut store, &mut work, &mut mags,
+    )?;
+    let d = content_hsv_shown(
+        rt, d, tint, side, lit, 1500000, &mut store, &mut work, &mut mags,
+    )?;
     content_hsv_shown(
-        d, tint, lit, dark, 2000000, &mut store, &mut work, &mut mags,
-    );
+        rt, d, tint, lit, dark, 2000000, &mut store, &mut work, &mut mags,
+    )?;
+    Ok(())
 }
 
 // Seven frames to the adaptive detector: pixels of 12 bytes, and `few` of 8.
-fn adaptive_run(black: &[u8], red: &[u8], green: &[u8], few: &[u8]) {
+fn adaptive_run(
+    rt: &impl Print,
+    black: &[u8],
+    red: &[u8],
+    green: &[u8],
+    few: &[u8],
+) -> io::Result<()> {
     let mut store = [0u8; 16];
     let mut work = [0u8; 32];
     let mut mags = [0i32; 4];
     let row = 2 * RgbFrame::BYTES_PER_PIXEL;
     let settled = adaptive::try_new(adaptive::Options::new().with_window_width(1));
     let d = settled.detector;
-    let d = adaptive_bgr_shown(d, black, row, 0, &mut store, &mut work, &mut mags);
-    let d = adaptive_bgr_shown(d, red, row - 1, 400000, &mut store, &mut work, &mut mags);
-    let d = adaptive_bgr_shown(d, few, row, 400000, &mut store, &mut work, &mut mags);
-    let d = adaptive_bgr_shown(d, black, row, 400000, &mut store, &mut work, &mut mags);
-    let d = adaptive_bgr_shown(d, red, row, 900000, &mut store, &mut work, &mut mags);
-    let d = adaptive_bgr_shown(d, red, row, 1500000, &mut store, &mut work, &mut mags);
-    adaptive_bgr_shown(d, green, row, 2000000, &mut store, &mut work, &mut mags);
+    let d = adaptive_bgr_shown(rt, d, black, row, 0, &mut store, &mut work, &mut mags)?;
+    let d = adaptive_bgr_shown(
+        rt,
+        d,
+        red,
+        row - 1,
+        400000,
+        &mut store,
+        &mut work,
+        &mut mags,
+    )?;
+    let d = adaptive_bgr_shown(rt, d, few, row, 400000, &mut store, &mut work, &mut mags)?;
+    let d = adaptive_bgr_shown(rt, d, black, row, 400000, &mut store, &mut work, &mut mags)?;
+    let d = adaptive_bgr_shown(rt, d, red, row, 900000, &mut store, &mut work, &mut mags)?;
+    let d = adaptive_bgr_shown(rt, d, red, row, 1500000, &mut store, &mut work, &mut mags)?;
+    adaptive_bgr_shown(rt, d, green, row, 2000000, &mut store, &mut work, &mut mags)?;
+    Ok(())
 }
 
 // Four BGR frames to the content detector, at default settings.
-fn content_pixels_run(black: &[u8], red: &[u8], green: &[u8]) {
+fn content_pixels_run(rt: &impl Print, black: &[u8], red: &[u8], green: &[u8]) -> io::Result<()> {
     let mut store = [0u8; 16];
     let mut work = [0u8; 32];
     let mut mags = [0i32; 4];
     let row = 2 * RgbFrame::BYTES_PER_PIXEL;
     let settled = content::try_new(content::Options::new());
     let d = settled.detector;
-    let d = content_bgr_shown(d, red, row - 1, 0, &mut store, &mut work, &mut mags);
-    let d = content_bgr_shown(d, black, row, 0, &mut store, &mut work, &mut mags);
-    let d = content_bgr_shown(d, red, row, 400000, &mut store, &mut work, &mut mags);
-    content_bgr_shown(d, green, row, 900000, &mut store, &mut work, &mut mags);
+    let d = content_bgr_shown(rt, d, red, row - 1, 0, &mut store, &mut work, &mut mags)?;
+    let d = content_bgr_shown(rt, d, black, row, 0, &mut store, &mut work, &mut mags)?;
+    let d = content_bgr_shown(rt, d, red, row, 400000, &mut store, &mut work, &mut mags)?;
+    content_bgr_shown(rt, d, green, row, 900000, &mut store, &mut work, &mut mags)?;
+    Ok(())
 }
 
 // Six luma and HSV frames to the adaptive detector: planes of 9 bytes, and `few` of 8.
-fn adaptive_planes_run<'a>(dark: &'a [u8], lit: &'a [u8], tint: &'a [u8], few: &'a [u8]) {
+fn adaptive_planes_run<'a>(
+    rt: &impl Print,
+    dark: &'a [u8],
+    lit: &'a [u8],
+    tint: &'a [u8],
+    few: &'a [u8],
+) -> io::Result<()> {
     let mut store = [0u8; 36];
     let mut work = [0u8; 69];
     let mut mags = [0i32; 9];
     let settled = adaptive::try_new(adaptive::Options::new().with_window_width(1));
     let d = settled.detector;
-    let d = adaptive_luma_shown(d, dark, 3, 0, &mut store, &mut work, &mut mags);
-    let d = adaptive_luma_shown(d, few, 3, 400000, &mut store, &mut work, &mut mags);
-    let d = adaptive_luma_shown(d, dark, 3, 400000, &mut store, &mut work, &mut mags);
-    let d = adaptive_hsv_shown(d, tint, lit, few, 900000, &mut store, &mut work, &mut mags);
-    let d = adaptive_hsv_shown(d, tint, lit, lit, 900000, &mut store, &mut work, &mut mags);
-    adaptive_hsv_shown(d, tint, lit, lit, 1500000, &mut store, &mut work, &mut mags);
+    let d = adaptive_luma_shown(rt, d, dark, 3, 0, &mut store, &mut work, &mut mags)?;
+    let d = adaptive_luma_shown(rt, d, few, 3, 400000, &mut store, &mut work, &mut mags)?;
+    let d = adaptive_luma_shown(rt, d, dark, 3, 400000, &mut store, &mut work, &mut mags)?;
+    let d = adaptive_hsv_shown(
+        rt, d, tint, lit, few, 900000, &mut store, &mut work, &mut mags,
+    )?;
+    let d = adaptive_hsv_shown(
+        rt, d, tint, lit, lit, 900000, &mut store, &mut work, &mut mags,
+    )?;
+    adaptive_hsv_shown(
+        rt, d, tint, lit, lit, 1500000, &mut store, &mut work, &mut mags,
+    )?;
+    Ok(())
 }
 
-fn main() {
+fn main(rt: HostRuntime) -> io::Result<()> {
     let dark = [0u8; 9];
     let lit = [200u8; 9];
     let tint = [30u8; 9];
     let side = [0u8, 200, 200, 0, 200, 200, 0, 200, 200];
     let few = [200u8; 8];
-    content_run(&dark, &lit, &tint, &side, &few);
+    content_run(&rt, &dark, &lit, &tint, &side, &few)?;
     let black = [0u8; 12];
     let red = [0u8, 0, 255, 0, 0, 255, 0, 0, 255, 0, 0, 255];
     let green = [0u8, 255, 0, 0, 255, 0, 0, 255, 0, 0, 255, 0];
-    adaptive_run(&black, &red, &green, &few);
-    content_pixels_run(&black, &red, &green);
-    adaptive_planes_run(&dark, &lit, &tint, &few);
+    adaptive_run(&rt, &black, &red, &green, &few)?;
+    content_pixels_run(&rt, &black, &red, &green)?;
+    adaptive_planes_run(&rt, &dark, &lit, &tint, &few)
 }
