@@ -1,0 +1,14 @@
+-- `memory::level` meets its contract: place by place.
+use mathlib.Core.Path.{◌≡◌, refl}
+use Prim.Native.Nat.{◌≤◌, ◌-◌}
+use native.Mathlib.Omega.{arith}
+use lib.ListN.{length}
+use Rattle.laws.proofs.Tab.{Filled, filled_none, filled_more, filled-all}
+use borrow.Author.Rules.{rules}
+use Rattle.compare_lists.proofs.memory.level.Given as goal
+
+abbrev pub invariant-loop-i : goal.invariant-loop-i
+invariant-loop-i l = (l.i ≤ length l.initial.plane) × Filled 0 (λ k. l.b) (length l.initial.plane) l.i l.plane
+
+abbrev pub decreases-loop-i : goal.decreases-loop-i
+decreases-loop-i l = length l.initial.plane - l.i
