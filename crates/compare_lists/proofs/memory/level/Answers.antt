@@ -1,4 +1,3 @@
-use Prim.Native.Nat.{◌-◌}
 use native.Mathlib.Omega.{arith}
 use Rattle.laws.proofs.Tab.{filled-all}
 use Rattle.compare_lists.proofs.memory.level.Goals as goal

@@ -1,10 +1,7 @@
 -- `memory::level` meets its contract: place by place.
-use mathlib.Core.Path.{◌≡◌, refl}
 use Prim.Native.Nat.{◌≤◌, ◌-◌}
-use native.Mathlib.Omega.{arith}
 use lib.ListN.{length}
-use Rattle.laws.proofs.Tab.{Filled, filled_none, filled_more, filled-all}
-use borrow.Author.Rules.{rules}
+use Rattle.laws.proofs.Tab.{Filled}
 use Rattle.compare_lists.proofs.memory.level.Given as goal
 
 abbrev pub invariant-loop-i : goal.invariant-loop-i

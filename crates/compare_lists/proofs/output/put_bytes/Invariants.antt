@@ -1,9 +1,7 @@
 -- `put_bytes` meets its contract: a writer for each byte.
 use Prim.Native.Nat.{◌-◌}
 use lib.ListN.{length}
-use borrow.Author.Rules.{rules}
 use Rattle.compare_lists.specs.Wrote.{Wrote}
-use Rattle.compare_lists.proofs.Writing.{wrote_none, wrote-both}
 use Rattle.compare_lists.proofs.output.put_bytes.Given as goal
 
 abbrev pub invariant-loop-i : goal.invariant-loop-i

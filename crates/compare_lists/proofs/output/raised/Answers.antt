@@ -1,6 +1,6 @@
 -- `output::raised` meets its contract: the microseconds since the least stamp.
 use mathlib.Core.Bool.{Bool, true, false, cond}
-use mathlib.Core.Path.{◌≡◌, refl, sym, ap, ◌∙◌}
+use mathlib.Core.Path.{◌≡◌, refl, ap, ◌∙◌}
 use Prim.Native.Nat.{ℕ}
 use lib.IntN.{nat_abs, ◌-ℤ◌}
 use lib.Signed.{le_z}
