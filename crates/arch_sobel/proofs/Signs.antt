@@ -27,3 +27,6 @@ unfolding sign_of
 is_zero (pos zero) e z = refl
 is_zero (pos (suc n)) e z = absurd (omega (arith, ltb-false 0 (suc n) z))
 is_zero (negsuc n) e z = absurd (clash e)
+
+-- what `sign` takes from them
+pub ruleset signs = (is_below, is-above, is_zero)

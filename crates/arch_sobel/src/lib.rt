@@ -56,6 +56,7 @@ fn size(g: i32) -> u32
 }
 
 // A number for the sign: 2 below zero, 1 above it, 0 at zero.
+#[tactic(auto, using(crate::proofs::Signs::signs))]
 fn sign(g: i32) -> u8
     ensures { result ≡ sign_of g }
 {
