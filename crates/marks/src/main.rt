@@ -6,7 +6,7 @@ ghost use Rattle.decimal.specs.Placed.{placed};
 ghost use Rattle.decimal.specs.Writing.{decimal};
 ghost use Rattle.marks.specs.Text.{row_text, rows_text, table_text};
 
-use libc::STDOUT_FILENO;
+use std::io;
 
 // Room for the text: 16 bytes of the header and at most 12 of each row, and what a writer asks for after its place.
 const TABLE_ROOM: usize = 4096;
@@ -51,14 +51,17 @@ fn put_table(out: &mut [u8]) -> usize
     requires { 4096 ≤ length out.old }
     ensures { (out.new ≡ placed out.old 0 table_text) × (result ≡ length table_text) }
 {
-    let e = bytes::copy(b"median,low,high\n", out);
+    let header = b"median,low,high\n";
+    let e = header.len();
+    out[..e].copy_from_slice(header);
     put_rows(out, e)
 }
 
-fn main() {
+fn main(rt: HostRuntime) -> io::Result<()> {
     let mut out = [0u8; TABLE_ROOM];
     let n = put_table(&mut out);
-    if !io::write_all(STDOUT_FILENO, &out[..n]) {
-        os::fail(b"standard output");
+    if let Err(e) = rt.write_all(&out[..n]) {
+        eprintln!(rt; "standard output: {e}")?;
     }
+    Ok(())
 }
