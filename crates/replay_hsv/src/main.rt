@@ -6,6 +6,7 @@ ghost use Rattle.replay.specs.Digest.{fed};
 ghost use Rattle.replay_hsv.specs.Pixels.{pixel_bytes, digest_of};
 
 use replay::Digest;
+use std::io;
 
 // One pixel's hue, saturation and value.
 fn pixel(d: Digest, p: u32) -> Digest
@@ -31,10 +32,11 @@ fn digest_of(part: u32) -> Digest
     d
 }
 
-fn main() {
+fn main(rt: HostRuntime) -> io::Result<()> {
     let mut part = 0;
     while part < 16 {
-        replay::print_line(b"hsv", part as u64, replay::value(digest_of(part)));
+        replay::print_line(&rt, b"hsv", part as u64, replay::value(digest_of(part)))?;
         part += 1;
     }
+    Ok(())
 }

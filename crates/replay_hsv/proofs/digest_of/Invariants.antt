@@ -1,0 +1,16 @@
+-- `replay_hsv::digest_of` meets its contract. The invariant: d is the digest of the i pixels passed.
+use mathlib.Core.Path.{◌≡◌, refl, ap, ◌∙◌}
+use Prim.Native.Nat.{ℕ, ◌≤◌, ◌-◌, ◌+◌, ◌*◌}
+use native.Mathlib.Numerals.{add-one}
+use native.Mathlib.Omega.{arith}
+use borrow.Author.Rules.{rules}
+use Rattle.replay.specs.declared.Digest.{Digest}
+use Rattle.replay.specs.Digest.{fed}
+use Rattle.replay_hsv.specs.Pixels.{pixel_bytes, digest_of}
+use Rattle.replay_hsv.proofs.digest_of.Given as goal
+
+abbrev pub invariant-loop-i : goal.invariant-loop-i
+invariant-loop-i l = (l.i ≤ 1048576) × (l.d ≡ digest_of l.first l.i)
+
+abbrev pub decreases-loop-i : goal.decreases-loop-i
+decreases-loop-i l = 1048576 - l.i
