@@ -2,8 +2,8 @@
 // each, as compare/README.md states.
 #![tactic(auto)]
 
-use libc::STDOUT_FILENO;
 use replay::Digest;
+use std::io;
 
 mod frames;
 mod planes;
@@ -60,30 +60,31 @@ fn batch(stage: Stage, w: usize) -> Digest
 }
 
 // The widths 0 to 40, a line each.
-fn lines(name: &[u8], stage: Stage) {
+fn lines(rt: &impl Print, name: &[u8], stage: Stage) -> io::Result<()> {
     let mut w: usize = 0;
     while w <= 40 {
-        replay::print_line(name, w as u64, replay::value(batch(stage, w)));
+        replay::print_line(rt, name, w as u64, replay::value(batch(stage, w)))?;
         w += 1;
     }
+    Ok(())
 }
 
 // The sample of RULES 13.2: a 3 x 2 luma frame with stride 4, of so many bytes.
-fn sample(bytes: usize)
+fn sample(rt: &impl Print, bytes: usize) -> io::Result<()>
     requires { bytes ≤ 8 }
 {
     let data = [0u8; 8];
     let answer = frame::check_luma(&data[..bytes], 3, 2, 4);
-    replay::print_line(b"sample", bytes as u64, answer as u64);
+    replay::print_line(rt, b"sample", bytes as u64, answer as u64)
 }
 
-fn main() {
-    lines(b"copy_plane", Stage::CopyPlane);
-    lines(b"bgr_to_hsv_planes", Stage::BgrToHsvPlanes);
-    lines(b"mean_abs_diff", Stage::MeanAbsDiff);
-    lines(b"sobel", Stage::Sobel);
-    lines(b"frame", Stage::Frame);
-    replay::print_line(b"sides", 343, replay::value(frames::sides()));
-    sample(8);
-    sample(7);
+fn main(rt: HostRuntime) -> io::Result<()> {
+    lines(&rt, b"copy_plane", Stage::CopyPlane)?;
+    lines(&rt, b"bgr_to_hsv_planes", Stage::BgrToHsvPlanes)?;
+    lines(&rt, b"mean_abs_diff", Stage::MeanAbsDiff)?;
+    lines(&rt, b"sobel", Stage::Sobel)?;
+    lines(&rt, b"frame", Stage::Frame)?;
+    replay::print_line(&rt, b"sides", 343, replay::value(frames::sides()))?;
+    sample(&rt, 8)?;
+    sample(&rt, 7)
 }
