@@ -1,12 +1,7 @@
 -- `replay_hsv::digest_of` meets its contract. The invariant: d is the digest of the i pixels passed.
-use mathlib.Core.Path.{◌≡◌, refl, ap, ◌∙◌}
-use Prim.Native.Nat.{ℕ, ◌≤◌, ◌-◌, ◌+◌, ◌*◌}
-use native.Mathlib.Numerals.{add-one}
-use native.Mathlib.Omega.{arith}
-use borrow.Author.Rules.{rules}
-use Rattle.replay.specs.declared.Digest.{Digest}
-use Rattle.replay.specs.Digest.{fed}
-use Rattle.replay_hsv.specs.Pixels.{pixel_bytes, digest_of}
+use mathlib.Core.Path.{◌≡◌}
+use Prim.Native.Nat.{◌≤◌, ◌-◌}
+use Rattle.replay_hsv.specs.Pixels.{digest_of}
 use Rattle.replay_hsv.proofs.digest_of.Given as goal
 
 abbrev pub invariant-loop-i : goal.invariant-loop-i

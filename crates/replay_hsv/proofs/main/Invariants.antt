@@ -1,7 +1,5 @@
 -- `replay_hsv::main` is safe: sixteen parts.
 use Prim.Native.Nat.{◌≤◌, ◌-◌}
-use native.Mathlib.Omega.{arith}
-use borrow.Author.Rules.{rules}
 use Rattle.replay_hsv.proofs.main.Given as goal
 
 abbrev pub invariant-loop-part : goal.invariant-loop-part
