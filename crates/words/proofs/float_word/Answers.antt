@@ -6,8 +6,7 @@ use borrow.Author.Tests.{eq-eqb}
 use lib.Dec.{T}
 use lib.Ieee.Bits.{of_bits-to_bits}
 use lib.Ieee.{Float, nan, inf, fin, eq, is_nan, to_bits, of_bits, binary64, up, down, level}
-use Rattle.words.proofs.float_word.Statement.{statement}
-use Rattle.words.proofs.float_word.Tie as tie
+use Rattle.words.proofs.float_word.Goals as goal
 
 no_nan : (x : Float) → eq x x ≡ true → T (not (is_nan x))
 unfolding eq is_nan
@@ -29,14 +28,10 @@ is-nan (fin s m d) e = absurd (subst T e (subst T (sym (level-self s (m * up d *
 fits-of : (b : Bool) → b ≡ true → T b
 fits-of b e = subst T (sym e) tt
 
-float-to-bits-result : tie.Need-float-to-bits-result
-float-to-bits-result c = no_nan c.before.args.x c.if1.true
+pub returns-then-x : goal.returns-then-x
+returns-then-x c = record { value = refl; result_value = of_bits-to_bits binary64 c.args.x (fits-of _ c.well_formed.0.1) }
 
-returns : tie.Need-returns
-returns c = (refl, of_bits-to_bits binary64 c.before.args.x (fits-of _ c.before.well-formed.0.1))
-
-returns-2 : tie.Need-returns-2
-returns-2 c = let e = is-nan c.before.args.x c.if1.false in (e, ap (of_bits binary64) e ∙ of_bits-to_bits binary64 c.before.args.x (fits-of _ c.before.well-formed.0.1))
-
-pub float-word-spec : {M : Type 1} → statement M
-float-word-spec = tie.close (tie.spec float-to-bits-result returns returns-2)
+pub returns : goal.returns
+returns c =
+    let e = is-nan c.args.x c.if-x.false in
+    record { value = e; result_value = ap (of_bits binary64) e ∙ of_bits-to_bits binary64 c.args.x (fits-of _ c.well_formed.0.1) }
