@@ -20,7 +20,7 @@ use Rattle.frame_call.specs.Call.{Called}
 use Rattle.adaptive_words.specs.Record.{adaptive_words, adaptive_of}
 use Rattle.station_answer.specs.Answer.{answer_words, ReadAs}
 use Rattle.station_answer.specs.Promises.{FrameContract, ClearContract}
-use Rattle.station_answer.proofs.Contracts.{frame_refused, frame-done, clear-refused, clear-done}
+use Rattle.station_answer.proofs.Promises.{frame_refused, frame-done, clear-refused, clear-done}
 use Rattle.adaptive_station.specs.Station.{adaptive_layout, adaptive_call}
 
 -- ---- a refused call gives the detector back

@@ -23,7 +23,7 @@ use Rattle.frame_call.specs.Call.{Called}
 use Rattle.content_words.specs.Record.{content_words, content_of}
 use Rattle.station_answer.specs.Answer.{answer_words, ReadAs}
 use Rattle.station_answer.specs.Promises.{FrameContract, ClearContract}
-use Rattle.station_answer.proofs.Contracts.{frame_refused, frame-done, clear-refused, clear-done}
+use Rattle.station_answer.proofs.Promises.{frame_refused, frame-done, clear-refused, clear-done}
 use Rattle.content_station.specs.Station.{content_layout, content_call, settled_by}
 
 -- ---- a refused call gives the detector back

@@ -1,5 +1,5 @@
 -- How a value that may be missing is held in words: a tag of 0 or 1, and the value, which is 0 where there is none. A double is held as its
--- bit pattern (`lib.Ieee`, `to_bits` and `of_bits`), a stamp in two's complement (`mir.Val`, `of_z` and `to_z`). RULES 15.2.
+-- bit pattern (`to_bits` and `of_bits`), a stamp in two's complement (`of_z` and `to_z`). RULES 15.2.
 use Rattle.std.specs.Prelude.{Bool, true, false, ℕ, ◌%◌, eqb}
 use Rattle.std.specs.Int.{w64}
 use Rattle.std.proofs.Common.{of_z, to_z}

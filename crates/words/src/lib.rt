@@ -27,6 +27,7 @@ pub fn float_word(x: f64) -> u64
 }
 
 // The double of a bit pattern. Every NaN's pattern is read as the NaN.
+#[tactic(auto, using(crate::proofs::Doubles::nan_read, crate::proofs::Doubles::number_read))]
 pub fn float_of(w: u64) -> f64
     ensures { result ≡ of_bits binary64 w }
 {

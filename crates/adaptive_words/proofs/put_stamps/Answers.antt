@@ -1,0 +1,12 @@
+-- `adaptive_words::put_stamps` meets its contract: after the loop all 129 places are written, and read back.
+use Rattle.adaptive_words.specs.Window.{stamps_words, stamps_of}
+use Rattle.adaptive_words.proofs.Places.{placed-all}
+use Prim.Native.Nat.{◌-◌}
+use native.Mathlib.Omega.{arith}
+use Rattle.adaptive_words.proofs.put_stamps.Goals as goal
+
+pub returns : goal.returns
+unfolding stamps_words stamps_of
+returns c =
+    let both = placed-all c.loop-i.invariant.1 (omega arith) (omega arith) in
+    record { out_after = both.0; out_after_2 = both.1 }

@@ -1,0 +1,17 @@
+-- `adaptive_words::put_stamps` meets its contract. The invariant: the places below i are written, and read back.
+use Rattle.adaptive_words.specs.Window.{stamps_words, stamps_of}
+use Rattle.adaptive_words.proofs.Places.{Placed, placed-none, placed-more, placed-all}
+use mir.ValLaws.{to_z-of_z}
+use mir.Val.{to_z, of_z}
+use mir.Syntax.{w64}
+use lib.IntN.{pos}
+use lib.ListN.{get_or}
+use Prim.Native.Nat.{◌≤◌, ◌-◌}
+use native.Mathlib.Omega.{arith}
+use Rattle.adaptive_words.proofs.put_stamps.Given as goal
+
+abbrev pub invariant-loop-i : goal.invariant-loop-i
+invariant-loop-i l = (l.i ≤ 129) × Placed (pos 0) (of_z w64) (to_z w64) 129 l.stamps l.i l.out
+
+abbrev pub decreases-loop-i : goal.decreases-loop-i
+decreases-loop-i l = 129 - l.i
