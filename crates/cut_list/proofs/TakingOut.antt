@@ -1,4 +1,4 @@
--- `cut_list::take_out` meets its contract. The invariant: the stamps past `place`, up to i, stand one place down.
+-- What the walk of `take_out` knows: the stamps past the place, up to i, stand one place down.
 use Prim.Native.Nat.{ℕ, suc, ◌+◌, ◌-◌, ◌≤◌, ◌<◌}
 use native.Mathlib.Omega.{arith}
 use mathlib.Core.Path.{◌≡◌, refl, sym, ap, ◌∙◌}
@@ -6,16 +6,12 @@ use mathlib.Core.List.{List, [], ◌∷◌, ◌++◌, append_assoc, append-nil}
 use lib.IntN.{ℤ, pos}
 use lib.ListN.{length, get_or, set, take, drop, length-set, length-append, length-drop, take-append-drop}
 use lib.Seq.{take-suc, drop-cons, set_at, append_snoc, get_or-drop, get_or-append-add, length-take-le}
-use mir.Syntax.{w64}
-use mir.ValLaws.{to_z-of_z}
-use Rattle.cut_list.proofs.take_out.Statement.{statement}
-use Rattle.cut_list.proofs.take_out.Tie as tie
 
 -- the stamps before p, and those past it, up to i, one place down
-abbrev below : List ℤ → ℕ → ℕ → List ℤ
+abbrev pub below : List ℤ → ℕ → ℕ → List ℤ
 below m p i = take p m ++ take (i - p) (drop (p + 1) m)
 
-record Moved (m₀ : List ℤ) (p i : ℕ) (m : List ℤ) : Type 0 where
+pub record Moved (m₀ : List ℤ) (p i : ℕ) (m : List ℤ) : Type 0 where
   pub len : length m ≡ length m₀
   pub is : m ≡ below m₀ p i ++ drop i m₀
 
@@ -25,7 +21,7 @@ length-below m₀ p i a h =
     omega
     (arith, length-append (take p m₀) (take (i - p) (drop (p + 1) m₀)), length-take-le p m₀ (omega arith), length-take-le (i - p) (drop (p + 1) m₀) (omega arith))
 
-moved_none : (m₀ : List ℤ) (p : ℕ) → Moved m₀ p p m₀
+pub moved_none : (m₀ : List ℤ) (p : ℕ) → Moved m₀ p p m₀
 moved_none m₀ p =
     let e : p - p ≡ 0 = omega arith in
     record { len = refl; is = rw (e, append-nil (take p m₀)) (sym (take-append-drop p m₀)) }
@@ -44,7 +40,7 @@ below_more m₀ p i a h =
     rw (e, take-suc (drop (p + 1) m₀) (i - p) (pos 0) (omega arith), get_or-drop (p + 1) m₀ (i - p) (pos 0), f)
     (append_assoc (take p m₀) (take (i - p) (drop (p + 1) m₀)) (get_or m₀ (suc i) (pos 0) ∷ []))
 
-moved_more : {m₀ m : List ℤ} {p i : ℕ} (v : ℤ) → Moved m₀ p i m → p ≤ i → i + 1 < length m₀ → v ≡ get_or m (i + 1) (pos 0) → Moved m₀ p (i + 1) (set m i v)
+pub moved_more : {m₀ m : List ℤ} {p i : ℕ} (v : ℤ) → Moved m₀ p i m → p ≤ i → i + 1 < length m₀ → v ≡ get_or m (i + 1) (pos 0) → Moved m₀ p (i + 1) (set m i v)
 moved_more {m₀} {m} {p} {i} v M a h e =
     let s : i + 1 ≡ suc i = omega arith in
     let r = below m₀ p i in
@@ -64,7 +60,7 @@ moved_more {m₀} {m} {p} {i} v M a h e =
           ∙ rw (e, kept, below_more m₀ p i a (omega arith), s) refl;
     }
 
-moved_all : {m₀ m : List ℤ} {p i : ℕ} (n last : ℕ) → Moved m₀ p i m → p ≤ i → last ≡ n - 1 → p < n → n ≤ length m₀ → i ≤ last → last ≤ i
+pub moved_all : {m₀ m : List ℤ} {p i : ℕ} (n last : ℕ) → Moved m₀ p i m → p ≤ i → last ≡ n - 1 → p < n → n ≤ length m₀ → i ≤ last → last ≤ i
     → set m last (pos 0) ≡ take p m₀ ++ (take (n - (p + 1)) (drop (p + 1) m₀) ++ (pos 0 ∷ drop n m₀))
 moved_all {m₀} {m} {p} {i} n last M a e b h u w =
     let q : i ≡ last = omega arith in
@@ -75,76 +71,3 @@ moved_all {m₀} {m} {p} {i} n last M a e b h u w =
     (ap (λ (l : List ℤ). set l last (pos 0)) g
     ∙ put-at m₀ p last (pos 0) (omega arith) (omega arith)
     ∙ append_assoc (take p m₀) (take (last - p) (drop (p + 1) m₀)) (pos 0 ∷ drop (suc last) m₀))
-
-abbrev invariant-loop : tie.invariant-loop
-invariant-loop memory₀ count place last i₀ memory i = (place ≤ i) × (i ≤ last) × Moved memory₀ place i memory
-
-abbrev decreases-loop : tie.decreases-loop
-decreases-loop memory₀ count place last i₀ memory i = last - i
-
-sub-last : tie.Need-overflow-sub-last invariant-loop decreases-loop
-sub-last c = omega arith
-
-loop-holds : tie.Need-loop-init invariant-loop decreases-loop
-loop-holds c = (omega arith, omega arith, moved_none _ _)
-
-add-memory : tie.Need-overflow-add-memory invariant-loop decreases-loop
-add-memory c = omega arith
-
-mul-memory : tie.Need-overflow-mul-memory invariant-loop decreases-loop
-mul-memory c = omega arith
-
-slice-copy-out-memory : tie.Need-slice-copy-out-memory invariant-loop decreases-loop
-slice-copy-out-memory c = omega arith
-
-mul-t11 : tie.Need-overflow-mul-t11 invariant-loop decreases-loop
-mul-t11 c = omega arith
-
-slice-set-from-memory : tie.Need-slice-set-from-memory invariant-loop decreases-loop
-slice-set-from-memory c = omega arith
-
-add-i : tie.Need-overflow-add-i invariant-loop decreases-loop
-add-i c = omega arith
-
-loop-less : tie.Need-loop-smaller invariant-loop decreases-loop
-loop-less c = omega arith
-
-loop-again : tie.Need-loop-preserved invariant-loop decreases-loop
-loop-again c =
-    let h = c.before.before.loop.invariant in
-    (omega arith, omega arith, moved_more _ h.2 h.0 (omega arith) (to_z-of_z w64 _ (record { sfits = c.memory.given })))
-
-mul-memory-2 : tie.Need-overflow-mul-memory-2 invariant-loop decreases-loop
-mul-memory-2 c = omega arith
-
-slice-set-of-memory : tie.Need-slice-set-of-memory invariant-loop decreases-loop
-slice-set-of-memory c = omega arith
-
-same_length : tie.Need-same-length invariant-loop decreases-loop
-same_length c = length-set c.before.loop.memory _ _ ∙ c.before.loop.invariant.2.len
-
-returns : tie.Need-returns invariant-loop decreases-loop
-returns c =
-    let h = c.before.loop.invariant in
-    moved_all _ _ h.2 h.0 refl c.before.before.requires.0 c.before.before.requires.1 h.1 c.loop-test.false
-
-pub take-out-spec : {M : Type 1} → statement M
-take-out-spec =
-    tie.close
-    (tie.spec
-    invariant-loop
-    decreases-loop
-    sub-last
-    loop-holds
-    add-memory
-    mul-memory
-    slice-copy-out-memory
-    mul-t11
-    slice-set-from-memory
-    add-i
-    loop-less
-    loop-again
-    mul-memory-2
-    slice-set-of-memory
-    same_length
-    returns)

@@ -1,5 +1,4 @@
 -- `cut_list::follows` meets its contract. Assumes nothing.
-use borrow.Author.Rules.{rules}
 use Prim.Native.Nat.{ℕ}
 use mathlib.Core.Path.{◌≡◌, refl, sym, ap, ◌∙◌}
 use mathlib.Core.Bool.{Bool, true, false, cond, ◌&&◌}
@@ -13,8 +12,7 @@ use Rattle.timestamp.specs.declared.Since.TheVariants.{Earlier, Micros}
 use Rattle.timestamp.specs.Stamps.{distance, duration_since}
 use Rattle.laws.proofs.Whole.{whole, sum-read, abs-down}
 use Rattle.cut_list.specs.Record.{follows}
-use Rattle.cut_list.proofs.follows.Statement.{statement}
-use Rattle.cut_list.proofs.follows.Tie as tie
+use Rattle.cut_list.proofs.follows.Goals as goal
 
 -- later, and d or more past it
 abbrev past : ℕ → Since → Bool
@@ -46,24 +44,8 @@ past_is : (d : ℕ) (earlier ts : Timestamp) → past d (duration_since ts earli
 unfolding duration_since distance follows
 past_is d earlier ts = by_order earlier.micros ts.micros d (le_z earlier.micros ts.micros) refl
 
-duration-since-requires : tie.Need-duration-since-requires
-duration-since-requires c κs = search rules
+pub returns-in-Earlier : goal.returns-in-Earlier
+returns-in-Earlier c = ap (past c.args.min_duration) c.in-Earlier.ensures ∙ past_is _ c.args.earlier c.args.ts
 
-enum_told : tie.Need-enum-told
-enum_told c = search rules
-
-enum-known-n : tie.Need-enum-known-n
-enum-known-n c = search rules
-
-returns : tie.Need-returns
-returns c =
-    let b = c.before.before in
-    ap (past b.before.args.min-duration) (sym c.enum_told.given.1 ∙ b.duration-since.ensures) ∙ past_is _ b.before.args.earlier b.before.args.ts
-
-returns-2 : tie.Need-returns-2
-returns-2 c =
-    let b = c.before.before.before in
-    ap (past b.before.args.min-duration) (sym c.before.n.given.1 ∙ b.duration-since.ensures) ∙ past_is _ b.before.args.earlier b.before.args.ts
-
-pub follows-spec : {M : Type 1} → statement M
-follows-spec = tie.close (tie.spec duration-since-requires enum_told enum-known-n returns returns-2)
+pub returns-in-Micros : goal.returns-in-Micros
+returns-in-Micros c = ap (past c.args.min_duration) c.in-Micros.ensures ∙ past_is _ c.args.earlier c.args.ts

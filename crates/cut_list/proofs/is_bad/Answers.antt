@@ -3,14 +3,12 @@ use Prim.Native.Nat.{◌≤◌, ◌<◌}
 use mathlib.Core.Path.{◌≡◌}
 use mathlib.Core.Bool.{Bool, true, not}
 use mathlib.Core.List.{List}
-use borrow.Author.Rules.{rules}
 use borrow.Author.Tests.{lt-ltb, le-ltb}
 use lib.IntN.{ℤ}
 use lib.ListN.{length, take}
 use Rattle.cut_list.specs.declared.CutList.{CutList}
 use Rattle.cut_list.specs.Record.{places, held, in_order, is_bad}
-use Rattle.cut_list.proofs.is_bad.Statement.{statement}
-use Rattle.cut_list.proofs.is_bad.Tie as tie
+use Rattle.cut_list.proofs.is_bad.Goals as goal
 
 module _ (l : CutList) (m : List ℤ) where
   many : 512 < l.count → true ≡ is_bad (held l m)
@@ -25,17 +23,11 @@ module _ (l : CutList) (m : List ℤ) where
   unfolding is_bad
   by_order o h k e = rw (le-ltb places l.count h, le-ltb (length m) places k, e)
 
-returns : tie.Need-returns
-returns c = many _ _ c.if1.true
+pub returns-then-list-gt-MOST_STAMPS : goal.returns-then-list-gt-MOST_STAMPS
+returns-then-list-gt-MOST_STAMPS c = many _ _ c.if-list-gt-MOST_STAMPS.true
 
-returns-2 : tie.Need-returns-2
-returns-2 c = short _ _ c.before.if1.false c.if2.true
+pub returns-then-memory-lt-MOST_STAMPS : goal.returns-then-memory-lt-MOST_STAMPS
+returns-then-memory-lt-MOST_STAMPS c = short _ _ c.if-list-gt-MOST_STAMPS.false c.if-memory-lt-MOST_STAMPS.true
 
-in-order-requires : tie.Need-in-order-requires
-in-order-requires c κs = search rules
-
-returns-3 : tie.Need-returns-3
-returns-3 c = by_order _ _ _ c.before.before.if1.false c.before.if2.false c.in_order.ensures
-
-pub is-bad-spec : {M : Type 1} → statement M
-is-bad-spec = tie.close (tie.spec returns returns-2 in-order-requires returns-3)
+pub returns : goal.returns
+returns c = by_order _ _ _ c.if-list-gt-MOST_STAMPS.false c.if-memory-lt-MOST_STAMPS.false c.in_order.ensures
