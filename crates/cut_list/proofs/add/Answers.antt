@@ -1,8 +1,6 @@
 -- `cut_list::add` meets its contract.
 use native.Mathlib.Omega.{arith}
-use mathlib.Core.Path.{◌≡◌, ◌∙◌}
-use mathlib.Core.Bool.{false}
-use Rattle.cut_list.specs.Record.{places, held, is_bad}
+use mathlib.Core.Path.{◌∙◌}
 use Rattle.cut_list.proofs.Brought.{sound, told, place-le, tests-are, add-bad, add-close, add-full, add_done}
 use Rattle.cut_list.proofs.add.Goals as goal
 

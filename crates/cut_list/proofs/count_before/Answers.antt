@@ -1,4 +1,3 @@
-use Prim.Native.Nat.{◌-◌}
 use native.Mathlib.Omega.{arith}
 use Rattle.cut_list.proofs.Walks.{counted_none, counted-le, counted-more}
 use Rattle.cut_list.proofs.count_before.Goals as goal

@@ -1,10 +1,8 @@
 -- `cut_list::count_up_to` meets its contract. The invariant: n of the first i stamps have the property.
 use Prim.Native.Nat.{◌≤◌, ◌-◌}
-use native.Mathlib.Omega.{arith}
 use lib.IntN.{ℤ}
 use lib.Signed.{le_z}
-use Rattle.cut_list.specs.Find.{clip_of}
-use Rattle.cut_list.proofs.Walks.{Counted, counted_none, counted-le, counted-more, counted-all}
+use Rattle.cut_list.proofs.Walks.{Counted}
 use Rattle.cut_list.proofs.count_up_to.Given as goal
 
 abbrev pub invariant-loop-i : goal.invariant-loop-i

@@ -1,12 +1,6 @@
 -- `cut_list::in_order` meets its contract. The invariant: each of the first i stamps follows the one before it.
-use Prim.Native.Nat.{ℕ, ◌<◌, ◌-◌}
-use native.Mathlib.Omega.{arith}
-use mathlib.Core.Path.{◌≡◌, sym, ◌∙◌}
-use mathlib.Core.Bool.{Bool}
-use lib.IntN.{ℤ}
-use borrow.Author.Tests.{not-true, not-false}
-use Rattle.cut_list.specs.Record.{follows}
-use Rattle.cut_list.proofs.Walks.{Ordered, ordered-one, ordered-more, ordered-all, ordered-not}
+use Prim.Native.Nat.{◌<◌, ◌-◌}
+use Rattle.cut_list.proofs.Walks.{Ordered}
 use Rattle.cut_list.proofs.in_order.Given as goal
 
 abbrev pub invariant-loop-i : goal.invariant-loop-i

@@ -1,4 +1,3 @@
-use Prim.Native.Nat.{◌-◌}
 use native.Mathlib.Omega.{arith}
 use Rattle.cut_list.proofs.Walks.{nearest-one, nearest-more}
 use Rattle.cut_list.proofs.nearest_of.Goals as goal

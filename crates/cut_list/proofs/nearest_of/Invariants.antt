@@ -1,7 +1,6 @@
 -- `cut_list::nearest_of` meets its contract. The invariant: best is the nearest of the first i stamps.
 use Prim.Native.Nat.{◌<◌, ◌≤◌, ◌-◌}
-use native.Mathlib.Omega.{arith}
-use Rattle.cut_list.proofs.Walks.{Nearest, nearest-one, nearest-more, nearest-all}
+use Rattle.cut_list.proofs.Walks.{Nearest}
 use Rattle.cut_list.proofs.nearest_of.Given as goal
 
 abbrev pub invariant-loop-i : goal.invariant-loop-i
