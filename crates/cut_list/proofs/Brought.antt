@@ -40,6 +40,10 @@ sound h e =
       ordered = not-false (in_order h.list.min_duration (stamps_of h)) p.1;
     }
 
+-- what the test for 15 returned
+pub told : {r v : Bool} (h : Held) → r ≡ is_bad h → r ≡ v → is_bad h ≡ v
+told h e f = sym e ∙ f
+
 drop-take : (p n : ℕ) (m : List ℤ) → p ≤ n → n ≤ length m → drop p (take n m) ≡ take (n - p) (drop p m)
 drop-take p n m h k =
     let e : n ≡ p + (n - p) = omega arith in

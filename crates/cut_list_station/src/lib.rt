@@ -14,6 +14,7 @@ use cut_list::{Changed, CutList};
 use timestamp::Timestamp;
 
 // The record that the words hold.
+#[tactic(auto, unfolding(crate::specs::Words::list_of, crate::specs::Words::is_list, crate::specs::Words::foreign))]
 fn read(w: &[u64; 3]) -> CutList
     ensures { result ≡ list_of w.now }
 {
@@ -31,8 +32,8 @@ fn read(w: &[u64; 3]) -> CutList
 
 // The record, from which it reads back.
 fn write(out: &mut [u64; 3], l: CutList)
-    ensures out_after { out.new ≡ list_words l }
-    ensures out_after_2 { list_of out.new ≡ l }
+    ensures words { out.new ≡ list_words l }
+    ensures read_back { list_of out.new ≡ l }
 {
     let w = [0x4d574c4953543031, l.min_duration, l.count as u64];
     words::copy(out, &w);
@@ -47,9 +48,9 @@ pub fn new(list: &mut [u64; 3], min_duration: u64)
 
 // Writes the record of an accepted change, leaves the words at a refused one, and gives its number.
 fn write_changed(list: &mut [u64; 3], c: Changed) -> u32
-    ensures value { result ≡ c.number }
-    ensures list_after { list.new ≡ after result (list_words c.list) list.old }
-    ensures list_after_2 { result ≡ 0 → list_of list.new ≡ c.list }
+    ensures number { result ≡ c.number }
+    ensures list { list.new ≡ after result (list_words c.list) list.old }
+    ensures read_back { result ≡ 0 → list_of list.new ≡ c.list }
 {
     let number = c.number;
     if number == 0 {
