@@ -253,6 +253,7 @@ pub fn picture_options(o: Options) -> PictureOptions
 }
 
 // Refusals 10, 11, then 6 to 9 of settings.
+#[tactic(auto, unfolding(crate::specs::Options::options_refusal))]
 fn options_refusal(o: Options) -> u32
     ensures { result ≡ options_refusal o }
 {

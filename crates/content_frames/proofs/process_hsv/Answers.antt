@@ -1,0 +1,14 @@
+-- `content_frames::process_hsv` meets its contract, by the picture of the frame.
+use Rattle.frame_call.specs.Call.{hsv, memory}
+use Rattle.frame_call.proofs.Returned.{called-by}
+use Rattle.content.specs.State.{refused_answer}
+use Rattle.content.specs.Step.{stepped}
+use Rattle.content.proofs.Recomputed.{from-called}
+use Rattle.content_frames.proofs.process_hsv.Goals as goal
+
+pub returns : goal.returns
+returns c =
+    let a = c.args in
+    let f = c.process_hsv-p in
+    let made = called-by (stepped a.d a.ts) (refused_answer a.d) _ f.result _ _ _ _ (rw (c.picture_options-settings.ensures, c.is_bad-bad.ensures) at f.ensures) c.answer_to.ensures.value c.answer_to.ensures.number_value in
+    (made, from-called a.d (hsv a.hue.now a.saturation.now a.value.now a.width a.height a.stride a.ts (memory a.store.now a.scratch.now a.magnitudes.now)) _ _ _ _ made)
