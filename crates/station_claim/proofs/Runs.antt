@@ -12,7 +12,7 @@ use Rattle.frame_call.specs.Call.{Memory, Call, clear}
 use Rattle.frame_call.specs.Run.{own_number}
 use Rattle.station_answer.specs.Answer.{answer_words, cut_in}
 use Rattle.station_answer.specs.Promises.{Layout, Brought, FrameContract}
-use Rattle.station_claim.specs.Run.{is_frame_line, StationCall, was_refused, cut_read, Made, by-frame, by-clear, MadeFrom, none, then}
+use Rattle.station_claim.specs.Run.{is_frame, StationCall, was_refused, cut_read, Made, by-frame, by-clear, MadeFrom, none, then}
 use Rattle.station_claim.specs.Claim.{EachCall}
 
 -- what the claim speaks of: a call, its number, and the cut or none
@@ -75,8 +75,8 @@ module _ {D : Type 0} (l : Layout D) (calls : D → Call → Brought D)
         call = c;
         number = 0;
         state = l.words_of b.detector;
-        answer = cond (is_frame_line c) (answer_words b.cut b.score b.components b.sums) [];
-        store = cond (is_frame_line c) b.store [];
+        answer = cond (is_frame c) (answer_words b.cut b.score b.components b.sums) [];
+        store = cond (is_frame c) b.store [];
       }
 
   shown-is : {s : List ℕ} {y : StationCall} → Made l calls s y → eqb y.number 0 ≡ true → y ≡ shown y.call (calls (l.held_by s) y.call)

@@ -7,8 +7,8 @@ use Rattle.station_answer.specs.Answer.{cut_in}
 use Rattle.station_answer.specs.Promises.{Layout, Brought, FrameContract, ClearContract}
 
 -- whether a call is a frame call, and the memory that it is lent; `clear` is lent none
-abbrev pub is_frame_line : Call → Bool
-is_frame_line c = by_call (λ u w h p ts m. true) false c
+abbrev pub is_frame : Call → Bool
+is_frame c = by_call (λ u w h p ts m. true) false c
 
 abbrev pub memory_in : Call → Memory
 memory_in c = by_call (λ u w h p ts m. m) (memory [] [] []) c
@@ -33,7 +33,7 @@ cut_read y = cond (eqb y.number 0) (cut_in y.answer) None
 module _ {D : Type 0} (l : Layout D) (calls : D → Call → Brought D) where
   -- a call that meets its contract (RULES 15.3, 15.6), with the state's words s before it; the answer's words a before it are any
   pub data Made : (s : List ℕ) → StationCall → Type 0 where
-    by-frame : {s s' a a' : List ℕ} {r : ℕ} {m' : Memory} → (c : Call) → is_frame_line c ≡ true
+    by-frame : {s s' a a' : List ℕ} {r : ℕ} {m' : Memory} → (c : Call) → is_frame c ≡ true
         → FrameContract l (calls (l.held_by s) c) r s s' a a' (memory_in c) m'
         → Made s (record { call = c; number = r; state = s'; answer = a'; store = m'.store })
     by-clear : {s s' : List ℕ} {r : ℕ} → ClearContract l (calls (l.held_by s) clear) r s s'
