@@ -1,11 +1,12 @@
 -- The number of a frame call, by the tests that the code makes, and what a call that is not refused has.
-use mathlib.Core.Path.{◌≡◌, refl}
+use mathlib.Core.Path.{◌≡◌, refl, sym, ◌∙◌}
 use mathlib.Core.Bool.{Bool, true, false, cond, not}
-use Prim.Native.Nat.{ℕ, ◌+◌, ◌*◌, ◌≤◌, ◌<◌, max}
+use Prim.Native.Nat.{ℕ, ◌+◌, ◌*◌, ◌^◌, ◌≤◌, ◌<◌, max}
 use native.Mathlib.Omega.{arith}
 use native.Mathlib.Decide.{ℕ_discrete}
 use lib.Dec.{eqb, ltb}
 use borrow.Author.Tests.{eq-eqb, ne_eqb, ltb-false}
+use Rattle.laws.proofs.Products.{product-below}
 use Rattle.stream.specs.Stream.{memory_refusal}
 use Rattle.frame_call.specs.Call.{call_refusal}
 
@@ -57,3 +58,14 @@ enough store scratch magnitudes w h e =
       for-scratch = ltb-false scratch (7 * (w * h) + 2 * max w h) t.1;
       for-magnitudes = ltb-false magnitudes (w * h) t.2;
     }
+
+-- a call that is not refused, by the number of its frame: the frame is not refused, and the memory is long enough
+pub taken : (bad : Bool) (f u store scratch magnitudes w h n : ℕ) → f ≡ u → n ≡ call_refusal bad f (memory_refusal store scratch magnitudes w h) → n ≡ 0
+    → (u ≡ 0) × Enough store scratch magnitudes w h
+taken bad f u store scratch magnitudes w h n e q z =
+    let p = passed bad f (memory_refusal store scratch magnitudes w h) (sym q ∙ z) in
+    (sym e ∙ p.0, enough store scratch magnitudes w h p.1)
+
+-- a frame has at most 2^24 pixels
+pub small : (w h : ℕ) → w ≤ 4096 → h ≤ 4096 → w * h < 2 ^ 26
+small w h a b = product-below 13 (omega arith) (omega arith)
