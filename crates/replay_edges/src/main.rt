@@ -8,6 +8,7 @@ ghost use Rattle.replay.specs.Digest.{empty, fed};
 ghost use Rattle.replay_edges.specs.Edges.{edged, side_of, batch_of, marks_of, windows_of};
 
 use replay::Digest;
+use std::io;
 
 // A batch on its way: the generator's number and the digest.
 #[derive(Clone, Copy)]
@@ -109,12 +110,13 @@ fn batch(w: usize) -> Digest
 }
 
 // The widths 0 to 24, a line each.
-fn lines(name: &[u8]) {
+fn lines(rt: &impl Print, name: &[u8]) -> io::Result<()> {
     let mut w: usize = 0;
     while w <= 24 {
-        replay::print_line(name, w as u64, replay::value(batch(w)));
+        replay::print_line(rt, name, w as u64, replay::value(batch(w)))?;
         w += 1;
     }
+    Ok(())
 }
 
 // One frame, with a window of 3 × 3.
@@ -133,23 +135,23 @@ const STILL: [u8; 28] = [
     131, 193, 131, 131, 131, 193, 131, 131, 193,
 ];
 
-fn still() {
+fn still(rt: &impl Print) -> io::Result<()> {
     let luma = STILL;
     let mut mag = [0i32; 28];
     let mut edges = [0u8; 28];
     let d = frame(&luma, &mut mag, &mut edges, 7, 4);
-    replay::print_line(b"still", 28, replay::value(d));
+    replay::print_line(rt, b"still", 28, replay::value(d))
 }
 
 // 3 × 4: thinning on magnitudes capped at 255 would give other edges.
 const CAPPED: [u8; 12] = [150, 171, 187, 167, 194, 166, 158, 56, 180, 158, 56, 56];
 
-fn capped() {
+fn capped(rt: &impl Print) -> io::Result<()> {
     let luma = CAPPED;
     let mut mag = [0i32; 12];
     let mut edges = [0u8; 12];
     let d = frame(&luma, &mut mag, &mut edges, 3, 4);
-    replay::print_line(b"capped", 12, replay::value(d));
+    replay::print_line(rt, b"capped", 12, replay::value(d))
 }
 
 // The low and the high mark of each median.
@@ -180,10 +182,10 @@ fn windows() -> Digest
     d
 }
 
-fn main() {
-    lines(b"edges");
-    still();
-    capped();
-    replay::print_line(b"marks", 256, replay::value(marks()));
-    replay::print_line(b"auto_kernel_size", 65536, replay::value(windows()));
+fn main(rt: HostRuntime) -> io::Result<()> {
+    lines(&rt, b"edges")?;
+    still(&rt)?;
+    capped(&rt)?;
+    replay::print_line(&rt, b"marks", 256, replay::value(marks()))?;
+    replay::print_line(&rt, b"auto_kernel_size", 65536, replay::value(windows()))
 }

@@ -1,0 +1,17 @@
+-- `windows` meets its contract. The invariant: d is the digest of the c sizes passed.
+use Prim.Native.Nat.{◌≤◌, ◌-◌, ℕ, ◌+◌, ◌*◌, ◌/◌, ◌%◌}
+use native.Mathlib.Omega.{arith}
+use borrow.Author.Rules.{rules}
+use mathlib.Core.Path.{◌≡◌, refl, ap, ◌∙◌}
+use native.Mathlib.Numerals.{add-one}
+use Rattle.canny_marks.specs.Kernel.{auto_kernel_size}
+use Rattle.replay.specs.declared.Digest.{Digest}
+use Rattle.replay.specs.Digest.{fed, least_first}
+use Rattle.replay_edges.specs.Edges.{windows_of}
+use Rattle.replay_edges.proofs.windows.Given as goal
+
+abbrev pub invariant-loop-c : goal.invariant-loop-c
+invariant-loop-c l = (l.c ≤ 65536) × (l.d ≡ windows_of l.c)
+
+abbrev pub decreases-loop-c : goal.decreases-loop-c
+decreases-loop-c l = 65536 - l.c
