@@ -40,10 +40,6 @@ sound h e =
       ordered = not-false (in_order h.list.min_duration (stamps_of h)) p.1;
     }
 
--- what the test for 15 returned
-pub told : {r v : Bool} (h : Held) → r ≡ is_bad h → r ≡ v → is_bad h ≡ v
-told h e f = sym e ∙ f
-
 drop-take : (p n : ℕ) (m : List ℤ) → p ≤ n → n ≤ length m → drop p (take n m) ≡ take (n - p) (drop p m)
 drop-take p n m h k =
     let e : n ≡ p + (n - p) = omega arith in
@@ -230,3 +226,76 @@ module _ (l : CutList) (m : List ℤ) (t : ℤ) (good : is_bad (held l m) ≡ fa
       → turned 0 (cut_list d (l.count - 1)) (take place m ++ (take (l.count - (place + 1)) (drop (place + 1) m) ++ (pos 0 ∷ drop l.count m))) ≡ removed (held l m) t
   unfolding removed remove_number without_stamp
   remove-done e = rw (good, present, e, taken e)
+
+-- ---- the same, by what each step of the code returned: the test for 15, the place, the tests there
+
+-- what the test for 15 returned
+pub told : {r v : Bool} (h : Held) → r ≡ is_bad h → r ≡ v → is_bad h ≡ v
+told h e f = sym e ∙ f
+
+module _ (l : CutList) (m : List ℤ) (r : Bool) (bad : r ≡ is_bad (held l m)) where
+  pub list_room : r ≡ false → l.count ≤ length m
+  list_room z = let s = sound _ (told _ bad z) in omega (arith, s.few, s.room)
+
+  pub more_room : r ≡ false → (l.count ≡ 512 → ⊥) → l.count < length m
+  more_room z some = let s = sound _ (told _ bad z) in omega (arith, s.few, s.room, some)
+
+  module _ (t : ℤ) (p : ℕ) (as-p : p ≡ before t (take l.count m)) where
+    pub place_in : r ≡ false → p ≤ l.count
+    place_in z = omega (arith, as-p, place-le l m t (told _ bad z))
+
+    pub place_room : r ≡ false → p ≤ length m
+    place_room z = omega (arith, place_in z, list_room z)
+
+    -- adding: the numbers 15, 17 and 18, and an accepted one
+    module _ (a b : Bool) (as-a : a ≡ cond (eqb p 0) true (follows l.min_duration (get_or m (p - 1) (pos 0)) t))
+        (as-b : b ≡ cond (ltb p l.count) (follows l.min_duration t (get_or m p (pos 0))) true) where
+      both : (z : r ≡ false) → (follows-earlier l m t (told _ bad z) && later-follows l m t (told _ bad z)) ≡ (a && b)
+      both z = tests-are l m t (told _ bad z) p as-p a b as-a as-b
+
+      pub add_17 : (n : ℕ) (k : CutList) → n ≡ 17 → k ≡ l → r ≡ false → (a && b) ≡ false → turned n k m ≡ added (held l m) t
+      add_17 n k e f z g = rw (e, f) (add-close l m t (told _ bad z) (both z ∙ g))
+
+      pub add_18 : (n : ℕ) (k : CutList) → n ≡ 18 → k ≡ l → r ≡ false → (a && b) ≡ true → l.count ≡ 512 → turned n k m ≡ added (held l m) t
+      add_18 n k e f z g full = rw (e, f) (add-full l m t (told _ bad z) (both z ∙ g) full)
+
+      pub add_0 : (k : List ℤ) → k ≡ take p m ++ (t ∷ (take (l.count - p) (drop p m) ++ drop (l.count + 1) m)) → r ≡ false → (a && b) ≡ true
+          → (l.count ≡ 512 → ⊥) → turned 0 (cut_list l.min_duration (l.count + 1)) k ≡ added (held l m) t
+      add_0 k e z g some = rw (e, as-p) (add_done l m t (told _ bad z) (both z ∙ g) some)
+
+    -- removing: the number 19, and an accepted one
+    module _ (a : Bool) (as-a : a ≡ cond (ltb p l.count) (same t (get_or m p (pos 0))) false) where
+      pub stands_in : r ≡ false → a ≡ true → p < l.count
+      stands_in z g = let good = told _ bad z in omega (arith, as-p, place-lt l m t good (there-is l m t good p as-p a as-a ∙ g))
+
+      pub remove_19 : (n : ℕ) (k : CutList) → n ≡ 19 → k ≡ l → r ≡ false → a ≡ false → turned n k m ≡ removed (held l m) t
+      remove_19 n k e f z g = let good = told _ bad z in rw (e, f) (remove_absent l m t good (there-is l m t good p as-p a as-a ∙ g))
+
+      pub remove_0 : (k : List ℤ) → k ≡ take p m ++ (take (l.count - (p + 1)) (drop (p + 1) m) ++ (pos 0 ∷ drop l.count m)) → r ≡ false → a ≡ true
+          → turned 0 (cut_list l.min_duration (l.count - 1)) k ≡ removed (held l m) t
+      remove_0 k e z g =
+          let good = told _ bad z in
+          rw (e, as-p) (remove-done l m t good (there-is l m t good p as-p a as-a ∙ g))
+
+  pub add_15 : (t : ℤ) (n : ℕ) (k : CutList) → n ≡ 15 → k ≡ l → r ≡ true → turned n k m ≡ added (held l m) t
+  add_15 t n k e f z = rw (e, f) (add-bad l m t (told _ bad z))
+
+  pub remove_15 : (t : ℤ) (n : ℕ) (k : CutList) → n ≡ 15 → k ≡ l → r ≡ true → turned n k m ≡ removed (held l m) t
+  remove_15 t n k e f z = rw (e, f) (remove-bad l m t (told _ bad z))
+
+  -- a span
+  pub span_15 : (a b : ℤ) → r ≡ true → record { number = 15; first = 0; count = 0 } ≡ span_in (held l m) a b
+  span_15 a b z = span-bad l m a b (told _ bad z)
+
+  module _ (a b : ℤ) (p q : ℕ) (as-p : p ≡ before a (take l.count m)) (as-q : q ≡ clip_of b (take l.count m)) where
+    pub span_some : r ≡ false → p < q → record { number = 0; first = p; count = q - p } ≡ span_in (held l m) a b
+    span_some z h = span-done l m a b p q (told _ bad z) as-p as-q h
+
+    pub span_0 : r ≡ false → q ≤ p → record { number = 0; first = 0; count = 0 } ≡ span_in (held l m) a b
+    span_0 z h = span-empty l m a b p q (told _ bad z) as-p as-q h
+
+pub ruleset adding = (list_room, add_15, add_17, add_18, add_0)
+
+pub ruleset removing = (list_room, stands_in, remove_15, remove_19)
+
+pub ruleset spanning = (list_room, span_15, span_some, span_0)

@@ -98,6 +98,7 @@ fn in_order(memory: &[i64], count: usize, min_duration: u64) -> bool
 }
 
 // Whether a list is refused by 15. One pass over its stamps.
+#[tactic(auto, unfolding(crate::specs::Record::is_bad))]
 fn is_bad(list: CutList, memory: &[i64]) -> bool
     ensures { result ≡ is_bad (held list memory.now) }
 {
@@ -210,6 +211,7 @@ fn insert(memory: &mut [i64], count: usize, place: usize, ts: Timestamp)
 
 // Adds a stamp in its place: refused by 15; by 17 when it equals one of the list or lies closer to one than the minimum; by 18 when 512 are
 // held. Places past the new count keep their contents.
+#[tactic(auto, using(crate::proofs::Brought::adding))]
 pub fn add(list: CutList, memory: &mut [i64], ts: Timestamp) -> Changed
     ensures { turned result.number result.list memory.new ≡ added (held list memory.old) ts.micros }
 {
@@ -263,6 +265,7 @@ fn take_out(memory: &mut [i64], count: usize, place: usize)
 }
 
 // Removes a stamp: refused by 15; by 19 when it is not in the list. The freed place is 0.
+#[tactic(auto, using(crate::proofs::Brought::removing))]
 pub fn remove(list: CutList, memory: &mut [i64], ts: Timestamp) -> Changed
     ensures { turned result.number result.list memory.new ≡ removed (held list memory.old) ts.micros }
 {
@@ -296,6 +299,7 @@ fn wipe(memory: &mut [i64], count: usize)
 }
 
 // Removes all stamps: refused by 15. The minimum stays, and the places that held stamps become 0.
+#[tactic(auto, unfolding(crate::specs::Change::emptied, crate::specs::Change::without_stamps, crate::specs::Record::list_number, crate::specs::Record::is_bad))]
 pub fn empty(list: CutList, memory: &mut [i64]) -> Changed
     ensures { turned result.number result.list memory.new ≡ emptied (held list memory.old) }
 {
@@ -340,6 +344,7 @@ fn nearest_of(memory: &[i64], count: usize, ts: Timestamp) -> Timestamp
 }
 
 // The stamp of the list that is nearest to ts, the earlier on a tie, or none in an empty list: refused by 15.
+#[tactic(auto, unfolding(crate::specs::Find::nearest_in, crate::specs::Find::nearest_of, crate::specs::Record::list_number, crate::specs::Record::is_bad))]
 pub fn nearest(list: CutList, memory: &[i64], ts: Timestamp) -> NearestStamp
     ensures { result ≡ nearest_in (held list memory.now) ts.micros }
 {
@@ -365,6 +370,7 @@ pub fn nearest(list: CutList, memory: &[i64], ts: Timestamp) -> NearestStamp
 
 // The stamps of the list from a to b, both ends counted: the place of the first and how many; 0 and 0 if there is none, as when a is later
 // than b. Refused by 15.
+#[tactic(auto, using(crate::proofs::Brought::spanning))]
 pub fn span(list: CutList, memory: &[i64], a: Timestamp, b: Timestamp) -> StampsWithin
     ensures { result ≡ span_in (held list memory.now) a.micros b.micros }
 {
@@ -393,6 +399,7 @@ pub fn span(list: CutList, memory: &[i64], a: Timestamp, b: Timestamp) -> Stamps
 }
 
 // The clip of a stamp: how many stamps of the list are at or before it. Refused by 15.
+#[tactic(auto, unfolding(crate::specs::Find::clip_in, crate::specs::Record::list_number, crate::specs::Record::is_bad))]
 pub fn clip(list: CutList, memory: &[i64], ts: Timestamp) -> ClipOfStamp
     ensures { result ≡ clip_in (held list memory.now) ts.micros }
 {
