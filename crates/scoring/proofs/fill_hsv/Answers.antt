@@ -1,5 +1,5 @@
 -- `scoring::fill_hsv` meets its contract: the three parts are written whole.
-use Prim.Native.Nat.{◌-◌, ◌*◌}
+use Prim.Native.Nat.{◌*◌}
 use Rattle.laws.proofs.Joined.{three-puts}
 use Rattle.scoring.specs.Planes.{hsv_frame}
 use Rattle.scoring.proofs.Lengths.{length-packed}
