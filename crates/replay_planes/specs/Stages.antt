@@ -1,5 +1,5 @@
 -- compare/README.md, "Replays": what each stage of `replay_planes` feeds for one width, height and kind.
-use Rattle.std.specs.Prelude.{List, ℕ, ◌+◌, ◌-◌, ◌*◌}
+use Rattle.std.specs.Prelude.{ℕ, ◌+◌, ◌-◌, ◌*◌}
 use Rattle.std.specs.Float.{binary64}
 use Rattle.std.specs.Float.Ieee.{to_bits}
 use Rattle.arch_hsv.specs.Hsv.{hsv_planes}

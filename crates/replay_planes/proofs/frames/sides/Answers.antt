@@ -1,4 +1,4 @@
-use Prim.Native.Nat.{◌-◌, ℕ, ◌+◌, ◌/◌, ◌%◌}
+use Prim.Native.Nat.{ℕ, ◌+◌, ◌/◌, ◌%◌}
 use native.Mathlib.Omega.{arith}
 use mathlib.Core.Path.{◌≡◌, refl}
 use native.Mathlib.Numerals.{add-one}
@@ -16,9 +16,8 @@ unfolding sides_of
 loop-c-init c = (omega arith, c.empty-d.ensures)
 
 pub loop-c-preserved : goal.loop-c-preserved
-loop-c-preserved c =
-    (
-      omega arith,
-      rw (c.checks-d.ensures, c.side-in-loop-c-2.ensures, c.side-in-loop-c.ensures, c.side.ensures)
-          (more c.loop-c.c c.loop-c.invariant.1),
-    )
+loop-c-preserved c = (
+  omega arith,
+  rw (c.checks-d.ensures, c.side-in-loop-c-2.ensures, c.side-in-loop-c.ensures, c.side.ensures)
+      (more c.loop-c.c c.loop-c.invariant.1),
+)

@@ -1,11 +1,7 @@
 -- `frames::sides` meets its contract. The invariant: d is the digest of the c frames passed.
-use Prim.Native.Nat.{◌≤◌, ◌-◌, ℕ, ◌+◌, ◌/◌, ◌%◌}
-use native.Mathlib.Omega.{arith}
-use borrow.Author.Rules.{rules}
-use mathlib.Core.Path.{◌≡◌, refl, ap, ◌∙◌}
-use native.Mathlib.Numerals.{add-one}
-use Rattle.replay.specs.declared.Digest.{Digest}
-use Rattle.replay_planes.specs.Batches.{side_of, no_bytes, sides_of}
+use Prim.Native.Nat.{◌≤◌, ◌-◌}
+use mathlib.Core.Path.{◌≡◌}
+use Rattle.replay_planes.specs.Batches.{sides_of}
 use Rattle.replay_planes.proofs.frames.sides.Given as goal
 
 abbrev pub invariant-loop-c : goal.invariant-loop-c
