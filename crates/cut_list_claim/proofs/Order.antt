@@ -147,5 +147,5 @@ leave-any s t (x ∷ xs) = by (same t x) refl (same s t) refl (leave-any s t xs)
         → any_of (same s) (cond b (leave_out (same t) xs) (x ∷ leave_out (same t) xs)) ≡ (not c && (same s x || any_of (same s) xs))
     by true q true r ih = ih
     by true q false r ih = rw (← same_read t x q, r) ih
-    by false q true r ih = rw (same_read s t r, q) (rw (same_read s t r) at ih)
+    by false q true r ih = rw (same_read s t r, q) ih
     by false q false r ih = rw ih
