@@ -5,7 +5,6 @@ use Prim.Native.Nat.{ℕ, ◌+◌, ◌*◌}
 use lib.ListN.{length, take, drop}
 use lib.Seq.{take_at, drop_at, drop-append-add}
 use Rattle.laws.proofs.Tab.{length-tabulate}
-use Rattle.arch_hsv.specs.Hsv.{hue, saturation}
 use Rattle.arch_planes.specs.Packed.{packed}
 use Rattle.scoring.specs.Planes.{Planes, joined, planes_in, luma_frame, bgr_frame, hsv_frame}
 

@@ -5,7 +5,6 @@ use mathlib.Core.Bool.{Bool, true, false, cond, not, ◌&&◌, true≢false}
 use mathlib.Core.List.{List, [], ◌∷◌}
 use Prim.Native.Nat.{ℕ, ◌*◌}
 use lib.Dec.{eqb}
-use lib.ListN.{length}
 use Rattle.timestamp.specs.declared.Timestamp.{Timestamp}
 use Rattle.scoring.specs.Planes.{Planes}
 use Rattle.scoring.specs.Sums.{frame_sums}
@@ -15,7 +14,7 @@ use Rattle.stream.specs.Stream.{no_sums, is_scored, next_stream}
 use Rattle.frame_call.specs.declared.PictureOptions.{PictureOptions}
 use Rattle.frame_call.specs.declared.Picture.{Picture}
 use Rattle.frame_call.specs.Call.{Memory, Call, luma, bgr, hsv, clear, frame_number, Outcome, sums_of, accepted, pictured, answered_by, outcome_of}
-use Rattle.frame_call.specs.Run.{is_refused, MadeCall, run_from}
+use Rattle.frame_call.specs.Run.{run_from}
 use Rattle.frame_call.specs.Earlier.{Ongoing, none_yet, of_size, ongoing_after, goes_on, has_earlier, pixels_of, SumsAt, SumsHold}
 use Rattle.frame_call.proofs.Runs.{DetectorLaws, if-accepted, if-refused, stays}
 
