@@ -1,5 +1,5 @@
 -- compare/README.md, "Replays": the batches of `replay_edges`.
-use Rattle.std.specs.Prelude.{List, [], ◌∷◌, ℕ, zero, suc, ◌+◌, ◌*◌, ◌/◌, ◌%◌, get_or}
+use Rattle.std.specs.Prelude.{[], ◌∷◌, ℕ, zero, suc, ◌*◌, ◌/◌, ◌%◌, get_or}
 use Rattle.canny.specs.Edges.{edge_plane}
 use Rattle.canny_marks.specs.Kernel.{auto_kernel_size}
 use Rattle.canny_marks.specs.Marks.{low_mark, high_mark}

@@ -1,11 +1,7 @@
 -- `batch` meets its contract. The invariant: run is the batch of the c cases passed.
-use Prim.Native.Nat.{◌≤◌, ◌-◌, ℕ, ◌+◌, ◌*◌, ◌/◌, ◌%◌}
-use native.Mathlib.Omega.{arith}
-use borrow.Author.Rules.{rules}
-use mathlib.Core.Path.{◌≡◌, refl, ap, ◌∙◌}
-use native.Mathlib.Numerals.{add-one}
-use Rattle.replay_edges.specs.declared.Run.{Run}
-use Rattle.replay_edges.specs.Edges.{edged, side_of, batch_of}
+use Prim.Native.Nat.{◌≤◌, ◌-◌}
+use mathlib.Core.Path.{◌≡◌}
+use Rattle.replay_edges.specs.Edges.{batch_of}
 use Rattle.replay_edges.proofs.batch.Given as goal
 
 abbrev pub invariant-loop-c : goal.invariant-loop-c

@@ -1,7 +1,5 @@
 -- `lines` is safe: 25 widths.
 use Prim.Native.Nat.{◌≤◌, ◌-◌}
-use native.Mathlib.Omega.{arith}
-use borrow.Author.Rules.{rules}
 use Rattle.replay_edges.proofs.lines.Given as goal
 
 abbrev pub invariant-loop-w : goal.invariant-loop-w

@@ -1,4 +1,4 @@
-use Prim.Native.Nat.{◌-◌, ℕ, ◌+◌}
+use Prim.Native.Nat.{ℕ, ◌+◌}
 use native.Mathlib.Omega.{arith}
 use mathlib.Core.Path.{◌≡◌, refl, ◌∙◌}
 use native.Mathlib.Numerals.{add-one}
@@ -18,6 +18,8 @@ unfolding marks_of
 loop-m-init c = (omega arith, cc)
 
 pub loop-m-preserved : goal.loop-m-preserved
-loop-m-preserved c =
-    let a = c in
-    (omega arith, c.step-d.ensures ∙ more _ _ _ a.loop-m.invariant.1 a.low_threshold-low.ensures a.high_threshold-high.ensures c.step.ensures)
+loop-m-preserved c = (
+  omega arith,
+  c.step-d.ensures
+      ∙ more _ _ _ c.loop-m.invariant.1 c.low_threshold-low.ensures c.high_threshold-high.ensures c.step.ensures,
+)

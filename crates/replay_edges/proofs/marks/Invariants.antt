@@ -1,12 +1,6 @@
 -- `marks` meets its contract. The invariant: d is the digest of the m medians passed.
-use Prim.Native.Nat.{◌≤◌, ◌-◌, ℕ, ◌+◌}
-use native.Mathlib.Omega.{arith}
-use borrow.Author.Rules.{rules}
-use mathlib.Core.Path.{◌≡◌, refl, ap, ◌∙◌}
-use native.Mathlib.Numerals.{add-one}
-use Rattle.canny_marks.specs.Marks.{low_mark, high_mark}
-use Rattle.replay.specs.declared.Digest.{Digest}
-use Rattle.replay.specs.Digest.{step_of}
+use Prim.Native.Nat.{◌≤◌, ◌-◌}
+use mathlib.Core.Path.{◌≡◌}
 use Rattle.replay_edges.specs.Edges.{marks_of}
 use Rattle.replay_edges.proofs.marks.Given as goal
 

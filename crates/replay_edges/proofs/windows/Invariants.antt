@@ -1,12 +1,6 @@
 -- `windows` meets its contract. The invariant: d is the digest of the c sizes passed.
-use Prim.Native.Nat.{◌≤◌, ◌-◌, ℕ, ◌+◌, ◌*◌, ◌/◌, ◌%◌}
-use native.Mathlib.Omega.{arith}
-use borrow.Author.Rules.{rules}
-use mathlib.Core.Path.{◌≡◌, refl, ap, ◌∙◌}
-use native.Mathlib.Numerals.{add-one}
-use Rattle.canny_marks.specs.Kernel.{auto_kernel_size}
-use Rattle.replay.specs.declared.Digest.{Digest}
-use Rattle.replay.specs.Digest.{fed, least_first}
+use Prim.Native.Nat.{◌≤◌, ◌-◌}
+use mathlib.Core.Path.{◌≡◌}
 use Rattle.replay_edges.specs.Edges.{windows_of}
 use Rattle.replay_edges.proofs.windows.Given as goal
 
