@@ -5,8 +5,14 @@ use lib.IntN.{pos}
 use mir.Syntax.{w32}
 use mir.Val.{to_z, of_z}
 use Rattle.arch_sobel.proofs.Inner.{within, is-inner}
-use Rattle.canny_thin.proofs.Near.{along-stays, class-inner}
+use Rattle.canny_thin.proofs.Near.{near-in, near-back, along-stays, class-inner}
 use Rattle.canny_thin.proofs.class_at.Goals as goal
+
+pub keeps_along-stay-requires : goal.keeps_along-stay-requires
+keeps_along-stay-requires c =
+    let a = c.args in
+    let in_it = within _ _ _ _ _ (is-inner c.requires.inner) c.requires.mag_len in
+    (omega (arith, in_it.right), (near-back a.mag.now a.w a.h a.x a.y in_it, near-in a.mag.now a.w a.h a.x a.y in_it))
 
 pub returns : goal.returns
 returns c =
