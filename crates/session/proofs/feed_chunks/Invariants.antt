@@ -1,0 +1,17 @@
+-- `session::feed_chunks` meets its contract: chunk by chunk, as the whole input in one chunk. Assumes nothing.
+use mathlib.Core.Path.{◌≡◌, refl}
+use Prim.Native.Nat.{◌+◌, ◌-◌, ◌≤◌}
+use native.Mathlib.Omega.{arith}
+use lib.ListN.{length}
+use Rattle.session.specs.Sessions.{state_of}
+use Rattle.session.specs.Promises.{Feeds}
+use Rattle.session.proofs.Feeding.{feeds-none, part-size, feeds-to}
+use Rattle.session.proofs.feed_chunks.Given as goal
+
+abbrev pub invariant-loop-a : goal.invariant-loop-a
+invariant-loop-a l =
+    (length l.out ≡ length l.initial.out) × (l.at + l.w ≤ length l.out) × Feeds (state_of l.initial.state l.initial.line l.initial.store) l.input l.initial.out l.at (state_of l.state l.line l.store) l.out l.a l.w
+
+abbrev pub decreases-loop-a : goal.decreases-loop-a
+decreases-loop-a l =
+    length l.input - l.a

@@ -1,0 +1,30 @@
+-- `session::run_lines` meets its contract: all of the input, then its end, or no room. Assumes nothing.
+use mathlib.Core.Path.{◌≡◌}
+use native.Mathlib.Omega.{arith}
+use lib.ListN.{length}
+use Rattle.session.specs.Feeding.{fresh}
+use Rattle.session.specs.Sessions.{state_of}
+use Rattle.session.specs.Promises.{Feeds}
+use Rattle.session.proofs.Feeding.{finishes-small}
+use Rattle.session.proofs.Runs.{from-new, runs-short, runs-end, runs-all}
+use Rattle.session.proofs.run_lines.Goals as goal
+
+pub returns-then-f-input : goal.returns-then-f-input
+returns-then-f-input c =
+    let fed = from-new _ _ _ _ _ _ _ _ _ c.new.ensures c.requires.0 c.feed_chunks-f.ensures.feeds in
+    runs-short _ _ _ _ _ _ fed c.feed_chunks-f.ensures.filled _ c.if-f-input.true
+
+pub returns-then-out-e-lt-ROOM : goal.returns-then-out-e-lt-ROOM
+returns-then-out-e-lt-ROOM c =
+    let fed = from-new _ _ _ _ _ _ _ _ _ c.new.ensures c.requires.0 c.feed_chunks-f.ensures.feeds in
+    runs-end _ _ _ _ _ _ fed c.feed_chunks-f.ensures.filled _ c.if-f-input.false
+    (omega (arith, c.feed_chunks-f.ensures.filled.inside, c.feed_chunks-f.auto.out, c.if-out-e-lt-ROOM.true))
+
+pub overflow_add-result : goal.overflow_add-result
+overflow_add-result c =
+    omega (arith, finishes-small _ _ _ _ _ _ _ c.finish_at-g.ensures, c.feed_chunks-f.ensures.filled.inside, c.feed_chunks-f.auto.out, c.if-out-e-lt-ROOM.false)
+
+pub returns : goal.returns
+returns c =
+    let fed = from-new _ _ _ _ _ _ _ _ _ c.new.ensures c.requires.0 c.feed_chunks-f.ensures.feeds in
+    runs-all _ _ _ _ _ _ fed c.feed_chunks-f.ensures.filled _ _ _ _ c.if-f-input.false c.requires.1 c.finish_at-g.ensures
