@@ -10,6 +10,7 @@ use content::{Answer, Detector, Options};
 use filter::FilterMode;
 use replay::Digest;
 use score::{Components, MaybeScore};
+use std::io;
 use timestamp::{MaybeTimestamp, Timestamp};
 
 // A list on its way: the generator's number, the place of the last stamp, the digest and the detector's state.
@@ -279,12 +280,13 @@ fn batch(b: u32) -> Digest
 }
 
 // The batches 0 to 15, a line each.
-fn lines(name: &[u8]) {
+fn lines(rt: &impl Print, name: &[u8]) -> io::Result<()> {
     let mut b: u32 = 0;
     while b < 16 {
-        replay::print_line(name, b as u64, replay::value(batch(b)));
+        replay::print_line(rt, name, b as u64, replay::value(batch(b)))?;
         b += 1;
     }
+    Ok(())
 }
 
 // One frame of a list that has a name.
@@ -359,14 +361,14 @@ fn falling(o: Options, luma: u8, last: i64) -> Digest {
 }
 
 // Merge with falling stamps: cuts nearer than the minimum, and a cut before the first allowed stamp.
-fn falls() {
+fn falls(rt: &impl Print) -> io::Result<()> {
     let near = falling(options(1, 1, 1, 0), 0, 0);
-    replay::print_line(b"near", 4, replay::value(near));
+    replay::print_line(rt, b"near", 4, replay::value(near))?;
     let early = falling(options(1, 0, 1, 1), 200, 1);
-    replay::print_line(b"early", 4, replay::value(early));
+    replay::print_line(rt, b"early", 4, replay::value(early))
 }
 
-fn main() {
-    lines(b"filter");
-    falls();
+fn main(rt: HostRuntime) -> io::Result<()> {
+    lines(&rt, b"filter")?;
+    falls(&rt)
 }
