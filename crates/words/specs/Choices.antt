@@ -9,7 +9,6 @@ use Rattle.timestamp.specs.declared.MaybeTimestamp.{MaybeTimestamp}
 use Rattle.timestamp.specs.declared.MaybeTimestamp.TheVariants.{None, At}
 use Rattle.score.specs.declared.MaybeScore.{MaybeScore}
 use Rattle.score.specs.declared.MaybeScore.TheVariants.{None as no_score, Some as some_score}
-use Rattle.laws.specs.Floats.{float}
 use Rattle.score.specs.declared.Components.{Components}
 use Rattle.score.specs.declared.MaybeComponents.{MaybeComponents}
 use Rattle.score.specs.declared.MaybeComponents.TheVariants.{None as no_components, Some as some_components}

@@ -1,9 +1,7 @@
 -- `words::copy` meets its contract. The invariant: i is at most the length, and dst has src's words at each place below i.
-use mathlib.Core.Path.{refl}
 use Prim.Native.Nat.{◌≤◌, ◌-◌}
-use native.Mathlib.Omega.{arith}
 use lib.ListN.{length, get_or}
-use Rattle.laws.proofs.Tab.{Filled, filled_none, filled_more, filled-ext}
+use Rattle.laws.proofs.Tab.{Filled}
 use Rattle.words.proofs.copy.Given as goal
 
 abbrev pub invariant-loop-i : goal.invariant-loop-i
