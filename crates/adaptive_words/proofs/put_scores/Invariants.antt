@@ -1,9 +1,7 @@
 -- `adaptive_words::put_scores` meets its contract. The invariant: the places below i are written, and read back.
-use Rattle.adaptive_words.specs.Window.{scores_words, scores_of}
-use Rattle.adaptive_words.proofs.Places.{Placed, placed-none, placed-more, placed-all}
+use Rattle.adaptive_words.proofs.Places.{Placed}
 use lib.Ieee.{nan, binary64, to_bits, of_bits}
 use Prim.Native.Nat.{◌≤◌, ◌-◌}
-use native.Mathlib.Omega.{arith}
 use Rattle.adaptive_words.proofs.put_scores.Given as goal
 
 abbrev pub invariant-loop-i : goal.invariant-loop-i

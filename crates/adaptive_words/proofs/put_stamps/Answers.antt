@@ -1,7 +1,6 @@
 -- `adaptive_words::put_stamps` meets its contract: after the loop all 129 places are written, and read back.
 use Rattle.adaptive_words.specs.Window.{stamps_words, stamps_of}
 use Rattle.adaptive_words.proofs.Places.{placed-all}
-use Prim.Native.Nat.{◌-◌}
 use native.Mathlib.Omega.{arith}
 use Rattle.adaptive_words.proofs.put_stamps.Goals as goal
 

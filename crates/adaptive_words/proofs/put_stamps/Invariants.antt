@@ -1,13 +1,9 @@
 -- `adaptive_words::put_stamps` meets its contract. The invariant: the places below i are written, and read back.
-use Rattle.adaptive_words.specs.Window.{stamps_words, stamps_of}
-use Rattle.adaptive_words.proofs.Places.{Placed, placed-none, placed-more, placed-all}
-use mir.ValLaws.{to_z-of_z}
+use Rattle.adaptive_words.proofs.Places.{Placed}
 use mir.Val.{to_z, of_z}
 use mir.Syntax.{w64}
 use lib.IntN.{pos}
-use lib.ListN.{get_or}
 use Prim.Native.Nat.{◌≤◌, ◌-◌}
-use native.Mathlib.Omega.{arith}
 use Rattle.adaptive_words.proofs.put_stamps.Given as goal
 
 abbrev pub invariant-loop-i : goal.invariant-loop-i

@@ -1,7 +1,6 @@
 -- `adaptive_words::scores_of` meets its contract: after the loop all 129 places are read.
 use Rattle.adaptive_words.specs.Window.{scores_of}
 use Rattle.laws.proofs.Tab.{filled-all}
-use Prim.Native.Nat.{◌-◌}
 use Rattle.adaptive_words.proofs.scores_of.Goals as goal
 
 pub returns : goal.returns

@@ -1,11 +1,8 @@
 -- `adaptive_words::scores_of` meets its contract. The invariant: the places below i are read.
-use Rattle.adaptive_words.specs.Window.{scores_of}
-use Rattle.laws.proofs.Tab.{Filled, filled_none, filled_more, filled-all}
+use Rattle.laws.proofs.Tab.{Filled}
 use lib.Ieee.{nan, binary64, of_bits}
 use lib.ListN.{get_or}
 use Prim.Native.Nat.{◌≤◌, ◌-◌}
-use mathlib.Core.Path.{refl}
-use native.Mathlib.Omega.{arith}
 use Rattle.adaptive_words.proofs.scores_of.Given as goal
 
 abbrev pub invariant-loop-i : goal.invariant-loop-i

@@ -1,14 +1,10 @@
 -- `adaptive_words::stamps_of` meets its contract. The invariant: the places below i are read.
-use Rattle.adaptive_words.specs.Window.{stamps_of}
-use Rattle.laws.proofs.Tab.{Filled, filled_none, filled_more, filled-all}
-use mir.ValLaws.{to_z-of_z}
+use Rattle.laws.proofs.Tab.{Filled}
 use mir.Val.{to_z}
 use mir.Syntax.{w64}
 use lib.IntN.{pos}
 use lib.ListN.{get_or}
 use Prim.Native.Nat.{◌≤◌, ◌-◌}
-use mathlib.Core.Path.{refl}
-use native.Mathlib.Omega.{arith}
 use Rattle.adaptive_words.proofs.stamps_of.Given as goal
 
 abbrev pub invariant-loop-i : goal.invariant-loop-i
