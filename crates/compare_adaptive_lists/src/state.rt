@@ -48,6 +48,7 @@ pub fn settings(script: &[u8]) -> Options
 }
 
 // A `clear` is rare, so that wide windows fill.
+#[tactic(auto, unfolding(crate::specs::State::is_clear))]
 pub fn is_clear(kind: u32, b: u32) -> bool
     ensures { result ≡ is_clear kind b }
 {

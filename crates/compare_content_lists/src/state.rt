@@ -8,6 +8,7 @@ use content::{Answer, Detector, Options};
 use filter::{Filter, FilterMode};
 use timestamp::MaybeTimestamp;
 
+#[tactic(auto, unfolding(crate::specs::State::mode_of))]
 fn filter_mode(b: u32) -> FilterMode
     ensures { result ≡ mode_of b }
 {

@@ -1,0 +1,16 @@
+-- `state::spoiled` meets its contract: each return is a case of the definition's tests.
+use borrow.Author.Tests.{eq-eqb, ne_eqb}
+use Rattle.compare_adaptive_lists.specs.State.{spoiled_by}
+use Rattle.compare_adaptive_lists.proofs.state.spoiled.Goals as goal
+
+pub returns-then-how-eq0 : goal.returns-then-how-eq0
+unfolding spoiled_by
+returns-then-how-eq0 c = simp (eq-eqb _ _ c.if-how-eq0.true)
+
+pub returns-then-how-eq1 : goal.returns-then-how-eq1
+unfolding spoiled_by
+returns-then-how-eq1 c = simp (ne_eqb _ _ c.if-how-eq0.false, eq-eqb _ _ c.if-how-eq1.true)
+
+pub returns : goal.returns
+unfolding spoiled_by
+returns c = simp (ne_eqb _ _ c.if-how-eq0.false, ne_eqb _ _ c.if-how-eq1.false, c.refused-bad.ensures)
