@@ -10,6 +10,7 @@ use lib.ListN.{length, take}
 use lib.Seq.{length-take-le}
 use lib.Signed.{◌≤ℤ◌, ◌<ℤ◌, lt_z}
 use mir.Syntax.{w64}
+use mir.Val.{SFits, of_z, to_z}
 use mir.ValLaws.{to_z-of_z}
 use Rattle.std.proofs.lemmas.Int.{ints}
 use Rattle.session.specs.Feeding.{State, fed}
@@ -46,17 +47,19 @@ module _ (s s' : State) (got : ℤ) (chunk : List ℕ) (n count : ℕ) (wrote : 
         state = λ w. rw (test, ← came, ne_eqb n 0 (omega (arith, more))) (state w);
       }
 
+-- `got` as the machine reads it back from its bits
+came : (got : ℤ) (n most : ℕ) → SFits w64 got → n ≡ clamp_len (to_z w64 (of_z w64 got)) most → n ≡ clamp_len got most
+came got n most fits e = rw (to_z-of_z w64 got fits) at e
+
 pub returns-then-got-lt0 : goal.returns-then-got-lt0
 returns-then-got-lt0 g c = failed _ c.args.got c.args.chunk.now (omega (arith, ints))
 
 pub returns-then-n-eq0 : goal.returns-then-n-eq0
 returns-then-n-eq0 g c =
-    let back = to_z-of_z w64 c.args.got c.ranges.got in
-    ended _ _ c.args.got c.args.chunk.now c.count-n.result _ _ (omega (arith, ints)) (rw back at c.count-n.ensures.value) c.if-n-eq0.true c.finish.ensures.count_value
+    ended _ _ c.args.got c.args.chunk.now c.count-n.result _ _ (omega (arith, ints)) (came c.args.got _ _ c.ranges.got c.count-n.ensures.value) c.if-n-eq0.true c.finish.ensures.count_value
     c.finish.ensures.store_after
 
 pub returns : goal.returns
 returns g c =
-    let back = to_z-of_z w64 c.args.got c.ranges.got in
-    some _ _ c.args.got c.args.chunk.now c.count-n.result _ _ (omega (arith, ints)) (rw back at c.count-n.ensures.value) (omega (arith, c.if-n-eq0.false)) c.count-n.ensures.in_bounds
+    some _ _ c.args.got c.args.chunk.now c.count-n.result _ _ (omega (arith, ints)) (came c.args.got _ _ c.ranges.got c.count-n.ensures.value) (omega (arith, c.if-n-eq0.false)) c.count-n.ensures.in_bounds
     c.feed_chunk.ensures.count_value c.feed_chunk.ensures.store_after
