@@ -1,9 +1,13 @@
 -- What follows a read.
-use Rattle.std.specs.Prelude.{◌≡◌, Bool, true, cond, ◌&&◌, List, ℕ, eqb, ltb, ℤ, pos, length, take}
+use Rattle.std.specs.Prelude.{◌≡◌, Bool, true, cond, ◌&&◌, List, ℕ, min, eqb, ltb, ℤ, pos, negsuc, length, take}
 use Rattle.std.specs.Int.Signed.{lt_z}
-use Rattle.io.specs.Counts.{clamp_len}
 use Rattle.session.specs.Feeding.{State, fed}
 use Rattle.session.specs.Sessions.{last_state}
+
+-- how many of `most` bytes a read brought that gave this number: none where it failed
+abbrev pub clamp_len : ℤ → ℕ → ℕ
+clamp_len (pos k) most = min k most
+clamp_len (negsuc k) most = 0
 
 -- The state after a read that gave `got` and left its bytes at the start of the chunk: as before where it failed; that of the end of the
 -- input where nothing came; else all the bytes that came are fed.

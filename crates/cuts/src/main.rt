@@ -4,10 +4,11 @@
 ghost use Rattle.std.specs.Prelude.{◌≡◌, true, ◌≤◌, length};
 ghost use Rattle.session.specs.Feeding.{fed};
 ghost use Rattle.session.specs.Sessions.{state_of, last_state};
-ghost use Rattle.cuts.specs.Reads.{goes_on, AfterRead, FedSome};
+ghost use Rattle.cuts.specs.Reads.{clamp_len, goes_on, AfterRead, FedSome};
 
-use libc::{STDERR_FILENO, STDIN_FILENO, STDOUT_FILENO};
 use session::{HEADER, HELD, PIXELS, ROOM, SCRATCH, STORE, Session};
+use std::io;
+use std::io::Read;
 
 // A proved loop has to end, and nothing says that an input does: no run makes so many reads.
 const MOST_READS: u64 = u64::MAX;
@@ -28,20 +29,21 @@ struct Ended {
 }
 
 // Writes the first n bytes of out, or says why it cannot.
-fn write_out(out: &[u8], n: usize) -> bool
+fn write_out(rt: &(impl Print + Eprint), out: &[u8], n: usize) -> bool
     requires { n ≤ length out.now }
 {
-    if io::write_all(STDOUT_FILENO, &out[..n]) {
-        return true;
+    if let Err(e) = rt.write_all(&out[..n]) {
+        let _ = eprintln!(rt; "standard output: {e}");
+        return false;
     }
-    os::fail(b"standard output");
-    false
+    true
 }
 
 // Feeds a whole chunk: where the text of its lines fills `out`, it is written, and the rest of the chunk is fed again. Where a write fails,
 // any state is right, since the run ends. Any content of `out`, of the line past the session's length, and of the luma values, the scratch
 // and the magnitudes is right, here and below.
 fn feed_chunk(
+    rt: &(impl Print + Eprint),
     s: Session,
     chunk: &[u8],
     line: &mut [u8; HELD],
@@ -70,7 +72,7 @@ fn feed_chunk(
         );
         let next = f.session;
         state = next;
-        if !write_out(out, f.written) {
+        if !write_out(rt, out, f.written) {
             return Turn {
                 session: state,
                 count: chunk.len(),
@@ -88,6 +90,7 @@ fn feed_chunk(
 
 // The end of the input: the last line, if no line feed ended it.
 fn finish(
+    rt: &(impl Print + Eprint),
     s: Session,
     line: &[u8; HELD],
     luma: &mut [u8; PIXELS],
@@ -100,7 +103,7 @@ fn finish(
 {
     let mut out = [0u8; ROOM];
     let f = session::finish(s, line, luma, store, scratch, magnitudes, &mut out);
-    let wrote = write_out(&out, f.written);
+    let wrote = write_out(rt, &out, f.written);
     let next = f.session;
     Turn {
         session: next,
@@ -109,9 +112,25 @@ fn finish(
     }
 }
 
+// How many bytes of `chunk` a read that gave `got` brought: none where it failed, and never more than there are.
+fn count(got: isize, chunk: &[u8]) -> usize
+    ensures in_bounds { result ≤ length chunk.now }
+    ensures value { result ≡ clamp_len got (length chunk.now) }
+{
+    if got < 0 {
+        return 0;
+    }
+    let n = got as usize;
+    if n < chunk.len() {
+        return n;
+    }
+    chunk.len()
+}
+
 // What follows a read that gave `got` and left its bytes at the start of `chunk`: all of them are fed. Where nothing came the input has
-// ended; where the read failed, it says so.
+// ended; where the read failed, nothing is fed.
 fn take_read(
+    rt: &(impl Print + Eprint),
     s: Session,
     got: isize,
     chunk: &[u8],
@@ -126,22 +145,44 @@ fn take_read(
     ensures { AfterRead (state_of s line.old store.old) got chunk.now (state_of result.session line.new store.new) result.count result.wrote }
 {
     if got < 0 {
-        os::fail(b"standard input");
         return Turn {
             session: s,
             count: 0,
             wrote: true,
         };
     }
-    let n = io::count(got, chunk);
+    let n = count(got, chunk);
     if n == 0 {
-        return finish(s, line, luma, store, scratch, magnitudes);
+        return finish(rt, s, line, luma, store, scratch, magnitudes);
     }
-    feed_chunk(s, &chunk[..n], line, luma, store, scratch, magnitudes, out)
+    feed_chunk(
+        rt,
+        s,
+        &chunk[..n],
+        line,
+        luma,
+        store,
+        scratch,
+        magnitudes,
+        out,
+    )
+}
+
+// Reads into the start of `chunk`: how many bytes came, or a number below 0 where the read failed, and says why it did.
+fn read_chunk(rt: &impl Eprint, input: &mut impl Read, chunk: &mut [u8]) -> isize {
+    match input.read(chunk) {
+        Ok(n) => n as isize,
+        Err(e) => {
+            let _ = eprintln!(rt; "standard input: {e}");
+            -1
+        }
+    }
 }
 
 // Reads once. What came is the input's: no contract can say that `got` is what the read gave.
 fn read_some(
+    rt: &(impl Print + Eprint),
+    input: &mut impl Read,
     s: Session,
     line: &mut [u8; HELD],
     luma: &mut [u8; PIXELS],
@@ -154,8 +195,10 @@ fn read_some(
     requires { 64 ≤ length out.old }
     ensures { FedSome (state_of s line.old store.old) chunk.new (state_of result.session line.new store.new) result.count result.wrote }
 {
-    let got = libc::read(STDIN_FILENO, chunk);
-    take_read(s, got, chunk, line, luma, store, scratch, magnitudes, out)
+    let got = read_chunk(rt, input, chunk);
+    take_read(
+        rt, s, got, chunk, line, luma, store, scratch, magnitudes, out,
+    )
 }
 
 // Whether to read again: until a read gives no bytes, or a write fails.
@@ -171,6 +214,8 @@ fn goes_on(count: usize, wrote: bool) -> bool
 // Reads and feeds to the end of the input: there is more to read only after the most reads. What was read before is overwritten, so this
 // contract cannot speak of the whole input; `session::run` does, on memory.
 fn run(
+    rt: &(impl Print + Eprint),
+    input: &mut impl Read,
     line: &mut [u8; HELD],
     luma: &mut [u8; PIXELS],
     store: &mut [u8; STORE],
@@ -185,7 +230,9 @@ fn run(
     let mut state = session::new();
     let mut reads: u64 = 0;
     while reads < MOST_READS {
-        let t = read_some(state, line, luma, store, scratch, magnitudes, chunk, out);
+        let t = read_some(
+            rt, input, state, line, luma, store, scratch, magnitudes, chunk, out,
+        );
         reads += 1;
         if !goes_on(t.count, t.wrote) {
             return Ended { reads, more: false };
@@ -196,10 +243,10 @@ fn run(
     Ended { reads, more: true }
 }
 
-fn main() {
+fn main(rt: HostRuntime) -> io::Result<()> {
     let header = session::header();
-    if !write_out(&header, HEADER) {
-        return;
+    if !write_out(&rt, &header, HEADER) {
+        return Ok(());
     }
     let mut line = [0u8; HELD];
     let mut luma = [0u8; PIXELS];
@@ -208,7 +255,10 @@ fn main() {
     let mut magnitudes = [0i32; PIXELS];
     let mut chunk = [0u8; 65536];
     let mut out = [0u8; 65536];
+    let mut input = rt.stdin();
     let e = run(
+        &rt,
+        &mut input,
         &mut line,
         &mut luma,
         &mut store,
@@ -218,6 +268,7 @@ fn main() {
         &mut out,
     );
     if e.more {
-        io::write_all(STDERR_FILENO, b"standard input: too many reads\n");
+        eprintln!(rt; "standard input: too many reads")?;
     }
+    Ok(())
 }

@@ -2,10 +2,11 @@
 // output, and up to which chunk size the output was the same byte for byte.
 #![tactic(auto)]
 
-ghost use Rattle.std.specs.Prelude.{◌≡◌, true};
+ghost use Rattle.std.specs.Prelude.{◌≡◌, true, ◌≤◌, length, IfOk};
 ghost use Rattle.session_cases.specs.Starts.{StartSame};
 
-use libc::{STDIN_FILENO, STDOUT_FILENO};
+use std::io;
+use std::io::Read;
 
 // The chunk sizes that are tried, and the room for the input and for each output.
 const MOST_SIZE: usize = 300;
@@ -24,7 +25,7 @@ fn start_same(a: &[u8], b: &[u8], n: usize) -> bool
     if b.len() < n {
         return false;
     }
-    check::same(&a[..n], &b[..n])
+    a[..n] == b[..n]
 }
 
 // Whether chunks of this size bring the same output.
@@ -51,24 +52,39 @@ fn first_other(input: &[u8], out: &[u8], n: usize, other: &mut [u8]) -> u64 {
     size as u64
 }
 
-fn report(input: &[u8], out: &mut [u8], other: &mut [u8]) {
+fn report(rt: &impl Print, input: &[u8], out: &mut [u8], other: &mut [u8]) -> io::Result<()> {
     let r = session::run(input, 0, out);
     let n = r.written;
     if !r.ok {
-        return;
+        return Ok(());
     }
     if n <= out.len() {
-        io::write_all(STDOUT_FILENO, &out[..n]);
-        io::write_all(STDOUT_FILENO, b"the same in chunks of each size below ");
-        io::print_decimal(STDOUT_FILENO, first_other(input, out, n, other));
-        io::write_all(STDOUT_FILENO, b"\n");
+        rt.write_all(&out[..n])?;
+        let size = first_other(input, out, n, other);
+        println!(rt; "the same in chunks of each size below {size}")?;
     }
+    Ok(())
 }
 
-fn main() {
+// Reads until `buf` is full or the input ends, and says how many bytes came.
+fn read_full(input: &mut impl Read, buf: &mut [u8]) -> io::Result<usize>
+    ensures { IfOk result (λ n. n ≤ length buf.new) }
+{
+    let mut done = 0;
+    while done < buf.len() {
+        let n = input.read(&mut buf[done..])?;
+        if n == 0 {
+            return Ok(done);
+        }
+        done += n;
+    }
+    Ok(done)
+}
+
+fn main(rt: HostRuntime) -> io::Result<()> {
     let mut input = [0u8; INPUT];
     let mut out = [0u8; OUTPUT];
     let mut other = [0u8; OUTPUT];
-    let n = io::read_full(STDIN_FILENO, &mut input);
-    report(&input[..n], &mut out, &mut other);
+    let n = read_full(&mut rt.stdin(), &mut input)?;
+    report(&rt, &input[..n], &mut out, &mut other)
 }
