@@ -17,6 +17,7 @@ const ENDS: [u64; 8] = [
 ];
 
 // A place of the memory: one of the first 16, or any of the first 512.
+#[tactic(auto, unfolding(crate::specs::Input::place_of))]
 fn place(a: u8, b: u8) -> usize
     ensures value { result ≡ place_of a b }
     ensures upper_bound { result < 512 }
@@ -27,6 +28,7 @@ fn place(a: u8, b: u8) -> usize
     2 * numbers::size_of(a) + numbers::size_of(b) / 2 % 2
 }
 
+#[tactic(auto, unfolding(crate::specs::Input::moved_by))]
 fn moved_by(minimum: u64, how: u8, by: u8) -> u64
     ensures { result ≡ moved_by minimum how by }
 {
@@ -46,6 +48,7 @@ fn moved_by(minimum: u64, how: u8, by: u8) -> u64
 }
 
 // A number that is moved by the minimum, or nearly so, or by half of it, or by a little.
+#[tactic(auto, unfolding(crate::specs::Input::moved_of))]
 fn moved(n: u64, minimum: u64, how: u8, by: u8) -> u64
     ensures { result ≡ moved_of n minimum how by }
 {
@@ -58,6 +61,7 @@ fn moved(n: u64, minimum: u64, how: u8, by: u8) -> u64
     numbers::less(n, moved_by(minimum, how / 2, by))
 }
 
+#[tactic(auto, unfolding(crate::specs::Input::end_list))]
 fn end(i: usize) -> u64
     requires { i < 8 }
     ensures { result ≡ slice_index end_list i }
@@ -66,6 +70,7 @@ fn end(i: usize) -> u64
 }
 
 // The number of the stamp that twelve bytes of a record describe.
+#[tactic(auto, unfolding(crate::specs::Input::aimed_of, crate::specs::Input::aimed_by))]
 pub fn aimed(r: &[u8; 32], at: usize, fills: bool, minimum: u64, memory: &[i64]) -> u64
     requires memory_len { length memory.now ≡ 600 }
     requires at_bound { at ≤ 20 }
@@ -91,6 +96,7 @@ pub fn aimed(r: &[u8; 32], at: usize, fills: bool, minimum: u64, memory: &[i64])
 }
 
 // The other end of a span.
+#[tactic(auto, unfolding(crate::specs::Input::other_of))]
 pub fn other(r: &[u8; 32], ts: u64, fills: bool, minimum: u64, memory: &[i64]) -> u64
     requires { length memory.now ≡ 600 }
     ensures { result ≡ other_of r.now ts fills minimum memory.now }
@@ -111,6 +117,7 @@ pub enum Kind {
     Clip,
 }
 
+#[tactic(auto, unfolding(crate::specs::Input::kind_of, crate::specs::Input::kind_by))]
 pub fn kind_of(r: &[u8; 32], fills: bool) -> Kind
     ensures { result ≡ kind_of r.now fills }
 {
@@ -140,6 +147,7 @@ pub fn kind_of(r: &[u8; 32], fills: bool) -> Kind
 }
 
 // How many places an operation is lent.
+#[tactic(auto, unfolding(crate::specs::Input::lent_of))]
 pub fn lent(r: &[u8; 32]) -> usize
     ensures value { result ≡ lent_of r.now }
     ensures upper_bound { result ≤ 600 }
@@ -161,6 +169,7 @@ pub fn lent(r: &[u8; 32]) -> usize
 }
 
 // The record that an operation is handed, at times with a fault.
+#[tactic(auto, unfolding(crate::specs::Input::given_of))]
 pub fn given(r: &[u8; 32], list: CutList) -> CutList
     ensures { result ≡ given_of r.now list }
 {
@@ -193,6 +202,7 @@ pub fn given(r: &[u8; 32], list: CutList) -> CutList
 }
 
 // What stands where a stamp should: the number of the one before, one before that, or one that is too close to it.
+#[tactic(auto, unfolding(crate::specs::Input::broken_of))]
 fn broken(before: u64, minimum: u64, how: u8, by: u8) -> u64
     ensures { result ≡ broken_of before minimum how by }
 {
@@ -209,6 +219,7 @@ fn broken(before: u64, minimum: u64, how: u8, by: u8) -> u64
 }
 
 // A place that has one before it.
+#[tactic(auto, unfolding(crate::specs::Input::faulty_of))]
 pub fn faulty_place(r: &[u8; 32]) -> usize
     ensures value { result ≡ faulty_of r.now }
     ensures upper_bound { result < 512 }
@@ -218,6 +229,7 @@ pub fn faulty_place(r: &[u8; 32]) -> usize
 }
 
 // The faulty place: as it is, or with a fault.
+#[tactic(auto, unfolding(crate::specs::Input::place_given))]
 pub fn place_given(r: &[u8; 32], minimum: u64, memory: &[i64]) -> u64
     requires { length memory.now ≡ 600 }
     ensures { result ≡ place_given r.now minimum memory.now }

@@ -11,6 +11,7 @@ ghost use Rattle.std.specs.Prelude.{◌≡◌, ◌≤◌, length};
 use cut_list::{Changed, CutList};
 use input::Kind;
 use replay::Digest;
+use std::io;
 use timestamp::{MaybeTimestamp, Timestamp};
 
 // What an operation leaves: its number, the record, and the digest with number and answer.
@@ -250,7 +251,7 @@ fn batch(x: u32, memory: &mut [i64]) -> Run
 }
 
 // 16 batches, one after the other.
-fn batches(memory: &mut [i64])
+fn batches(rt: &impl Print, memory: &mut [i64]) -> io::Result<()>
     requires { length memory.old ≡ 600 }
 {
     let mut x = 0;
@@ -258,12 +259,13 @@ fn batches(memory: &mut [i64])
     while b < 16 {
         let run = batch(x, memory);
         x = run.x;
-        replay::print_line(b"list", b, replay::value(run.digest));
+        replay::print_line(rt, b"list", b, replay::value(run.digest))?;
         b += 1;
     }
+    Ok(())
 }
 
-fn main() {
+fn main(rt: HostRuntime) -> io::Result<()> {
     let mut memory = [0i64; 600];
-    batches(&mut memory);
+    batches(&rt, &mut memory)
 }

@@ -34,12 +34,14 @@ fn minimum_at(i: usize) -> u64
 }
 
 // The minimum of the list.
+#[tactic(auto, unfolding(crate::specs::Starts::minimum_of))]
 pub fn minimum(r: &[u8; 32]) -> u64
     ensures { result ≡ minimum_of r.now }
 {
     minimum_at((r[0] % 16) as usize)
 }
 
+#[tactic(auto, unfolding(crate::specs::Starts::count_by))]
 fn count_by(kind: u8, b: usize) -> usize
     requires { b < 256 }
     ensures { result ≡ count_by kind b }
@@ -72,12 +74,14 @@ fn count_by(kind: u8, b: usize) -> usize
 }
 
 // How many stamps a list starts with.
+#[tactic(auto, unfolding(crate::specs::Starts::count_of))]
 pub fn count(r: &[u8; 32]) -> usize
     ensures { result ≡ count_of r.now }
 {
     count_by(r[12] % 16, numbers::size_of(r[13]))
 }
 
+#[tactic(auto, unfolding(crate::specs::Starts::step_by))]
 fn step_by(kind: u8, b: u64, minimum: u64) -> u64
     requires { b < 256 }
     ensures { result ≡ step_by kind b minimum }
@@ -110,6 +114,7 @@ fn step_by(kind: u8, b: u64, minimum: u64) -> u64
 }
 
 // How far one place of the first memory is past the one before it.
+#[tactic(auto, unfolding(crate::specs::Starts::step_of))]
 pub fn step(r: &[u8; 32], minimum: u64) -> u64
     ensures { result ≡ step_of r.now minimum }
 {
@@ -130,6 +135,7 @@ fn back(step: u64, n: usize) -> u64
 }
 
 // The number of the first place.
+#[tactic(auto, unfolding(crate::specs::Starts::first_of))]
 pub fn first(r: &[u8; 32], step: u64, count: usize) -> u64
     ensures { result ≡ first_of r.now step count }
 {
@@ -160,6 +166,7 @@ pub fn fill(memory: &mut [i64], first: u64, step: u64)
 }
 
 // A new list, or one that holds stamps already.
+#[tactic(auto, unfolding(cut_list::specs::Record::new_list))]
 pub fn opened(minimum: u64, count: usize) -> CutList
     ensures { result ≡ cut_list minimum count }
 {
