@@ -1,7 +1,7 @@
-use Prim.Native.Nat.{◌+◌, ◌-◌, ◌≤◌, ◌<◌}
+use Prim.Native.Nat.{◌-◌}
 use native.Mathlib.Omega.{arith}
 use lib.ListN.{length}
-use Rattle.session.proofs.Feeding.{feeds-none, rest-length, feeds-then}
+use Rattle.session.proofs.Feeding.{feeds-none, feeds-then}
 use Rattle.session.proofs.feed_at.Goals as goal
 
 pub loop-a-init : goal.loop-a-init

@@ -1,11 +1,9 @@
 -- `session::feed_at` meets its contract: the loop feeds line by line while there is room for a line's text. Assumes nothing.
 use mathlib.Core.Path.{◌≡◌}
-use Prim.Native.Nat.{◌+◌, ◌-◌, ◌≤◌, ◌<◌}
-use native.Mathlib.Omega.{arith}
+use Prim.Native.Nat.{◌+◌, ◌-◌, ◌≤◌}
 use lib.ListN.{length}
 use Rattle.session.specs.Sessions.{state_of}
 use Rattle.session.specs.Promises.{Feeds}
-use Rattle.session.proofs.Feeding.{feeds-none, rest-length, feeds-then}
 use Rattle.session.proofs.feed_at.Given as goal
 
 abbrev pub invariant-loop-a : goal.invariant-loop-a

@@ -1,11 +1,9 @@
 -- `session::feed_chunks` meets its contract: chunk by chunk, as the whole input in one chunk. Assumes nothing.
-use mathlib.Core.Path.{◌≡◌, refl}
+use mathlib.Core.Path.{◌≡◌}
 use Prim.Native.Nat.{◌+◌, ◌-◌, ◌≤◌}
-use native.Mathlib.Omega.{arith}
 use lib.ListN.{length}
 use Rattle.session.specs.Sessions.{state_of}
 use Rattle.session.specs.Promises.{Feeds}
-use Rattle.session.proofs.Feeding.{feeds-none, part-size, feeds-to}
 use Rattle.session.proofs.feed_chunks.Given as goal
 
 abbrev pub invariant-loop-a : goal.invariant-loop-a

@@ -1,4 +1,3 @@
-use Prim.Native.Nat.{◌-◌}
 use native.Mathlib.Omega.{arith}
 use Rattle.session.proofs.Holding.{holding-none, holding-more, holding-feed, holding-end}
 use Rattle.session.proofs.hold_bytes.Goals as goal

@@ -1,9 +1,8 @@
 -- `session::hold_bytes` meets its contract: the loop keeps the bytes of the chunk before i, none of them a line feed. Assumes nothing.
 use mathlib.Core.Path.{◌≡◌}
 use Prim.Native.Nat.{◌-◌}
-use native.Mathlib.Omega.{arith}
 use lib.ListN.{length, take}
-use Rattle.session.proofs.Holding.{Holding, holding-none, holding-more, holding-feed, holding-end}
+use Rattle.session.proofs.Holding.{Holding}
 use Rattle.session.proofs.hold_bytes.Given as goal
 
 abbrev pub invariant-loop-i : goal.invariant-loop-i

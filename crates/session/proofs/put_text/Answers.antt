@@ -1,4 +1,3 @@
-use Prim.Native.Nat.{◌-◌}
 use native.Mathlib.Omega.{arith}
 use Rattle.session.proofs.Texts.{put-none, put-more}
 use Rattle.session.proofs.put_text.Goals as goal

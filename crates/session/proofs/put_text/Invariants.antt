@@ -1,9 +1,8 @@
 -- `session::put_text` meets its contract: byte by byte. Assumes nothing.
 use mathlib.Core.Path.{◌≡◌}
 use Prim.Native.Nat.{◌-◌}
-use native.Mathlib.Omega.{arith}
 use lib.ListN.{length}
-use Rattle.session.proofs.Texts.{Put, put-none, put-more, put_all}
+use Rattle.session.proofs.Texts.{Put}
 use Rattle.session.proofs.put_text.Given as goal
 
 abbrev pub invariant-loop-i : goal.invariant-loop-i

@@ -1,10 +1,5 @@
 -- `session::run_lines` meets its contract: all of the input, then its end, or no room. Assumes nothing.
-use mathlib.Core.Path.{◌≡◌}
 use native.Mathlib.Omega.{arith}
-use lib.ListN.{length}
-use Rattle.session.specs.Feeding.{fresh}
-use Rattle.session.specs.Sessions.{state_of}
-use Rattle.session.specs.Promises.{Feeds}
 use Rattle.session.proofs.Feeding.{finishes-small}
 use Rattle.session.proofs.Runs.{from-new, runs-short, runs-end, runs-all}
 use Rattle.session.proofs.run_lines.Goals as goal
