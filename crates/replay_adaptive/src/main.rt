@@ -9,6 +9,7 @@ ghost use Rattle.replay.specs.Digest.{fed};
 ghost use Rattle.replay.specs.Generator.{after};
 
 use replay::Digest;
+use std::io;
 
 // The first n bytes of out, or all where there are fewer.
 fn feed_first(d: Digest, out: &[u8], n: usize) -> Digest
@@ -73,20 +74,21 @@ fn batch(x: u32, script: &mut [u8], out: &mut [u8]) -> Run {
 }
 
 // 80 batches, one after the other.
-fn batches(script: &mut [u8], out: &mut [u8]) {
+fn batches(rt: &impl Print, script: &mut [u8], out: &mut [u8]) -> io::Result<()> {
     let mut x = 0;
     let mut b: u64 = 0;
     while b < 80 {
         let run = batch(x, script, out);
         x = run.x;
-        replay::print_line(b"lists", b, replay::value(run.digest));
+        replay::print_line(rt, b"lists", b, replay::value(run.digest))?;
         b += 1;
     }
+    Ok(())
 }
 
-fn main() {
+fn main(rt: HostRuntime) -> io::Result<()> {
     let mut script = [0u8; 3856];
     let mut out = [0u8; 160000];
-    batches(&mut script, &mut out);
-    samples::print();
+    batches(&rt, &mut script, &mut out)?;
+    samples::print(&rt)
 }

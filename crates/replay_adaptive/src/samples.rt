@@ -6,6 +6,7 @@ ghost use Rattle.adaptive.specs.Options.{options_refusal};
 
 use adaptive::{Detector, Options};
 use score::{Components, MaybeScore};
+use std::io;
 use timestamp::Timestamp;
 
 // The state after a frame for each byte of luma.
@@ -84,35 +85,40 @@ fn settings(window_width: u32) -> u64
     settled.number as u64
 }
 
-pub fn print() {
+pub fn print(rt: &impl Print) -> io::Result<()> {
     let luma = Components::luma_only();
     replay::print_line(
+        rt,
         b"scores_1_30_1",
         15,
         ratio(options(luma, 15.0), &[0, 1, 31, 32]),
-    );
+    )?;
     replay::print_line(
+        rt,
         b"scores_0_30_0",
         15,
         ratio(options(luma, 15.0), &[0, 0, 30, 30]),
-    );
+    )?;
     replay::print_line(
+        rt,
         b"scores_0_10_0",
         15,
         ratio(options(luma, 15.0), &[0, 0, 10, 10]),
-    );
+    )?;
     let exact = Components::new(99999.0, 0.0, 1.0, 0.0);
     replay::print_line(
+        rt,
         b"average_1e-5",
         0,
         ratio(options(exact, 0.0), &[10, 11, 11, 12]),
-    );
+    )?;
     let under = Components::new(100000.0, 0.0, 1.0, 0.0);
     replay::print_line(
+        rt,
         b"average_below",
         0,
         ratio(options(under, 0.0), &[10, 11, 11, 12]),
-    );
-    replay::print_line(b"window", 64, settings(64));
-    replay::print_line(b"window", 65, settings(65));
+    )?;
+    replay::print_line(rt, b"window", 64, settings(64))?;
+    replay::print_line(rt, b"window", 65, settings(65))
 }
