@@ -29,8 +29,8 @@ all-mapped P [] a = tt
 all-mapped P (y ∷ ys) a = (a.0, all-mapped P ys a.1)
 
 module _ {D : Type 0} (l : Layout D) (calls : D → Call → Brought D)
-    (Refused-none : (d : D) (c : Call) → eqb (calls d c).number 0 ≡ false → (calls d c).cut ≡ None)
-    (Clear-none : (d : D) → (calls d clear).cut ≡ None) where
+    (none_refused : (d : D) (c : Call) → eqb (calls d c).number 0 ≡ false → (calls d c).cut ≡ None)
+    (none_cleared : (d : D) → (calls d clear).cut ≡ None) where
   abbrev call_of : StationCall → Call
   call_of y = y.call
 
@@ -58,11 +58,11 @@ module _ {D : Type 0} (l : Layout D) (calls : D → Call → Brought D)
   frame-cut : {s s' a a' : List ℕ} {r : ℕ} {m m' : Memory} (c : Call) → FrameContract l (calls (l.held_by s) c) r s s' a a' m m' → (b : Bool) → eqb r 0 ≡ b
       → cond b (cut_in a') None ≡ (calls (l.held_by s) c).cut
   frame-cut {r = r} c t true e = (t.answer_back (eqb-true r 0 e)).the-cut
-  frame-cut {s = s} {r = r} c t false e = sym (Refused-none (l.held_by s) c (ap (λ n. eqb n 0) (sym t.number) ∙ e))
+  frame-cut {s = s} {r = r} c t false e = sym (none_refused (l.held_by s) c (ap (λ n. eqb n 0) (sym t.number) ∙ e))
 
   clear-cut : (d : D) (b : Bool) → cond b (cut_in []) None ≡ (calls d clear).cut
-  clear-cut d true = sym (Clear-none d)
-  clear-cut d false = sym (Clear-none d)
+  clear-cut d true = sym (none_cleared d)
+  clear-cut d false = sym (none_cleared d)
 
   cut-is : {s : List ℕ} {y : StationCall} → Made l calls s y → cut_read y ≡ (calls (l.held_by s) y.call).cut
   cut-is (by-frame {r = r} c f t) = frame-cut c t (eqb r 0) refl
