@@ -21,3 +21,23 @@ edge_plane-requires c =
     let zero : luma_refusal (length c.args.luma.now) c.args.width c.args.height c.args.width ≡ 0 = sym c.luma_refusal-refusal.ensures ∙ omega arith in
     let ok = accepted-luma _ _ _ _ zero in
     record { w_bound = (ok.wide, ok.high); luma_len = c.if-luma-n.true; mag_len = (c.if-mag-n.true, c.if-edges-n.true); }
+
+pub returns-then-edges-n-clause-value : goal.returns-then-edges-n-clause-value
+returns-then-edges-n-clause-value c =
+    let zero : luma_refusal (length c.args.luma.now) c.args.width c.args.height c.args.width ≡ 0 = sym c.luma_refusal-refusal.ensures ∙ omega arith in
+    done _ _ zero (simp (eq-eqb _ _ c.if-luma-n.true, eq-eqb _ _ c.if-mag-n.true, eq-eqb _ _ c.if-edges-n.true))
+
+pub returns-else-edges-n-clause-value : goal.returns-else-edges-n-clause-value
+returns-else-edges-n-clause-value c =
+    let zero : luma_refusal (length c.args.luma.now) c.args.width c.args.height c.args.width ≡ 0 = sym c.luma_refusal-refusal.ensures ∙ omega arith in
+    misfit _ _ zero (simp (eq-eqb _ _ c.if-luma-n.true, eq-eqb _ _ c.if-mag-n.true, ne_eqb _ _ c.if-edges-n.false))
+
+pub returns-else-mag-n-clause-value : goal.returns-else-mag-n-clause-value
+returns-else-mag-n-clause-value c =
+    let zero : luma_refusal (length c.args.luma.now) c.args.width c.args.height c.args.width ≡ 0 = sym c.luma_refusal-refusal.ensures ∙ omega arith in
+    misfit _ _ zero (simp (eq-eqb _ _ c.if-luma-n.true, ne_eqb _ _ c.if-mag-n.false))
+
+pub returns-else-luma-n-clause-value : goal.returns-else-luma-n-clause-value
+returns-else-luma-n-clause-value c =
+    let zero : luma_refusal (length c.args.luma.now) c.args.width c.args.height c.args.width ≡ 0 = sym c.luma_refusal-refusal.ensures ∙ omega arith in
+    misfit _ _ zero (simp (ne_eqb _ _ c.if-luma-n.false))
