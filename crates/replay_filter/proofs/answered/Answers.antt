@@ -1,6 +1,6 @@
 -- `answered` meets its contract: `clear`, or the frame call's promise.
 use borrow.Author.Tests.{eq-eqb, ne_eqb}
-use mathlib.Core.Path.{◌≡◌, refl, sym, ap, ◌∙◌}
+use mathlib.Core.Path.{refl, sym, ap, ◌∙◌}
 use mathlib.Core.List.{[], ◌∷◌}
 use Prim.Native.Nat.{ℕ}
 use lib.IntN.{pos}
@@ -17,7 +17,7 @@ use Rattle.replay_filter.proofs.answered.Goals as goal
 pub returns-then-action-eq0 : goal.returns-then-action-eq0
 unfolding answered_of
 returns-then-action-eq0 c =
-    record { value = rw (eq-eqb _ _ c.if-action-eq0.true) c.clear.ensures; store_after = rw (eq-eqb _ _ c.if-action-eq0.true) refl; }
+    record { value = rw (eq-eqb _ _ c.if-action-eq0.true) c.clear.ensures; store_after = rw (eq-eqb _ _ c.if-action-eq0.true) refl }
 
 pub returns : goal.returns
 unfolding answered_of
