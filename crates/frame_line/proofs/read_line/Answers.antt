@@ -32,7 +32,7 @@ both line e w h ends next wide after high =
 
 pub returns-then-line-gt-MOST_BYTES : goal.returns-then-line-gt-MOST_BYTES
 returns-then-line-gt-MOST_BYTES c =
-    let s = says_none c.args.line.now c.args.luma.now c.no_frame.result (too_long _ c.if-line-gt-MOST_BYTES.true) c.no_frame.ensures in
+    let s = says_none c.args.line.now c.args.luma.now c.no_frame.result (too_long _ (omega (arith, c.if-line-gt-MOST_BYTES.true))) c.no_frame.ensures in
     record { value = s.0; luma_after = s.1 }
 
 pub slice_bounds-read_stamp-end : goal.slice_bounds-read_stamp-end
@@ -79,7 +79,7 @@ overflow_mul-n c =
 pub returns-then-n : goal.returns-then-n
 returns-then-n c =
     let b = both _ _ _ _ c.field_end-e.ensures c.next_number-w.ensures c.if-not-w.false c.next_number-h.ensures c.if-not-h.false in
-    let s = says_none c.args.line.now c.args.luma.now c.no_frame-then-n.result (pixels-missed _ _ _ _ b c.if-n.true) c.no_frame-then-n.ensures in
+    let s = says_none c.args.line.now c.args.luma.now c.no_frame-then-n.result (pixels-missed _ _ _ _ b (omega (arith, c.if-n.true))) c.no_frame-then-n.ensures in
     record { value = s.0; luma_after = s.1 }
 
 pub read_values-requires-clause-from_in_bounds : goal.read_values-requires-clause-from_in_bounds
