@@ -1,7 +1,7 @@
 -- `mw_sobel` meets its contract: the lengths that `sobel` requires are tested.
 use borrow.Author.Rules.{rules}
 use borrow.Author.Tests.{eq-eqb, ne_eqb}
-use mathlib.Core.Path.{◌≡◌, refl, sym, ◌∙◌}
+use mathlib.Core.Path.{◌≡◌, sym, ◌∙◌}
 use native.Mathlib.Omega.{arith}
 use lib.ListN.{length}
 use Rattle.frame.specs.Checks.{luma_refusal}
@@ -10,7 +10,7 @@ use Rattle.compare_exports.proofs.Guarded.{refused, misfit, done, kept}
 use Rattle.compare_exports.proofs.mw_sobel.Goals as goal
 
 pub returns-then-refusal-gt0 : goal.returns-then-refusal-gt0
-returns-then-refusal-gt0 c = record { value = refused _ _ _ c.luma_refusal-refusal.ensures c.if-refusal-gt0.true; mag_after = kept _ _ _ c.if-refusal-gt0.true; dir_after = kept _ _ _ c.if-refusal-gt0.true; }
+returns-then-refusal-gt0 c = record { value = refused _ _ _ c.luma_refusal-refusal.ensures c.if-refusal-gt0.true; mag_after = kept _ _ _ c.if-refusal-gt0.true; dir_after = kept _ _ _ c.if-refusal-gt0.true }
 
 pub overflow_mul-n : goal.overflow_mul-n
 overflow_mul-n c = record { fits = product-below 32 (search rules) (search rules) }
