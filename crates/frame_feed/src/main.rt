@@ -2,8 +2,7 @@
 // 3 × 3 pixels, BGR frames of 2 × 2 pixels. For each frame it prints one line: the kind, the constructor's number, the number of the
 // detector's answer, and the answer's sums of hue, saturation, luma and edge differences and its count (RULES 4.4). The cut stands on a line
 // below, if there is one.
-// Only the six functions `content_luma` to `adaptive_hsv` hold a record (RULES 2.8). Their parameters and results are plain, so that their
-// callers are covered.
+// Only the six functions `content_luma` to `adaptive_hsv` hold a record (RULES 2.8). Their parameters and results are plain.
 #![tactic(auto)]
 
 ghost use Rattle.std.specs.Prelude.{◌≡◌, length};
@@ -163,12 +162,18 @@ fn adaptive_hsv<'a>(
     }
 }
 
-// Prints the four sums and the count, each after a space.
+// Prints a space and a number.
+fn show_number(rt: &impl Print, n: u32) -> io::Result<()> {
+    print!(rt; " {n}")
+}
+
+// Prints the four sums and the count.
 fn show_sums(rt: &impl Print, s: Sums) -> io::Result<()> {
-    print!(rt;
-        " {} {} {} {} {}",
-        s.hue, s.saturation, s.luma, s.edges, s.count
-    )
+    show_number(rt, s.hue)?;
+    show_number(rt, s.saturation)?;
+    show_number(rt, s.luma)?;
+    show_number(rt, s.edges)?;
+    show_number(rt, s.count)
 }
 
 // Prints a stamp that is not before 0.
@@ -190,7 +195,8 @@ fn show(
     cut: MaybeTimestamp,
 ) -> io::Result<()> {
     rt.write_all(name)?;
-    print!(rt; " {number} {answer}")?;
+    show_number(rt, number)?;
+    show_number(rt, answer)?;
     show_sums(rt, sums)?;
     println!(rt;)?;
     match cut {
