@@ -91,7 +91,7 @@ fn edge_planes() -> Row {
     row
 }
 
-/// Widths about the blocks of 32 and 64 places that a row is worked in.
+/// Widths about multiples of 32 and 64.
 fn edge_blocks() -> Row {
     let mut row = Row::new("edge_plane, widths 30 to 140");
     let mut generator = Generator(8);
