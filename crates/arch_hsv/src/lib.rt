@@ -47,10 +47,10 @@ fn sixths(b: u32, g: u32, r: u32, v: u32, d: u32) -> u32
     requires { (v ≤ 255) × ((v ≡ value b g r) × (d ≡ delta b g r)) }
     ensures { (result ≡ sixths b g r) × (result ≤ 1530) }
 {
-    let red = choose::pick_u32(b <= g, 0, 6 * d) + g - b;
+    let red = choose::pick(b <= g, 0, 6 * d) + g - b;
     let green = 2 * d + b - r;
     let blue = 4 * d + r - g;
-    choose::pick_u32(v == r, red, choose::pick_u32(v == g, green, blue))
+    choose::pick(v == r, red, choose::pick(v == g, green, blue))
 }
 
 // Hue above 179 is 179.
@@ -83,8 +83,8 @@ struct Measured {
 fn parts(b: u8, g: u8, r: u8) -> Measured
     ensures { (result.v ≡ value b g r) × ((result.d ≡ delta b g r) × (result.k ≡ sixths b g r)) }
 {
-    let v = choose::larger_u8(choose::larger_u8(b, g), r);
-    let d = v - choose::lesser_u8(choose::lesser_u8(b, g), r);
+    let v = b.max(g).max(r);
+    let d = v - b.min(g).min(r);
     let k = sixths(b as u32, g as u32, r as u32, v as u32, d as u32);
     Measured { v, d, k: k as u16 }
 }
@@ -156,7 +156,7 @@ fn bgr_to_hsv_row(t: &[u32; 256], out: &mut [u8], row: &[u8], first: usize, n: u
     let mut k = [0u16; 256];
     let mut x = 0;
     while x < w {
-        let m = choose::lesser_usize(256, w - x);
+        let m = (w - x).min(256);
         let p = 3 * x;
         let q = p + 3 * m;
         measure(&row[p..q], m, &mut v, &mut d, &mut k);

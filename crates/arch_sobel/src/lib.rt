@@ -76,9 +76,9 @@ fn direction(gx: i32, gy: i32) -> u8
 {
     let ax = size(gx);
     let ay = size(gy);
-    let slant = choose::pick_u8(sign(gx) == sign(gy), 1, 3);
-    let steep = choose::pick_u8(2414 * ax < 1000 * ay, 2, slant);
-    choose::pick_u8(1000 * ay < 414 * ax, 0, steep)
+    let slant = choose::pick(sign(gx) == sign(gy), 1, 3);
+    let steep = choose::pick(2414 * ax < 1000 * ay, 2, slant);
+    choose::pick(1000 * ay < 414 * ax, 0, steep)
 }
 
 // What the two planes have at one place.

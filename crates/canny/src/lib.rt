@@ -27,12 +27,8 @@ pub fn edge_plane(luma: &[u8], mag: &mut [i32], edges: &mut [u8], w: usize, h: u
     ensures edges_after { edges.new ≡ edge_plane luma.now w h k }
     ensures mag_len_unchanged { length mag.new ≡ length mag.old }
 {
-    if w < 3 {
-        choose::clear_bytes(edges);
-        return;
-    }
-    if h < 3 {
-        choose::clear_bytes(edges);
+    if w < 3 || h < 3 {
+        edges.fill(0);
         return;
     }
     strong_plane(luma, mag, edges, w, h);

@@ -39,10 +39,10 @@ fn keeps_along(mag: &[i32], w: usize, dir: u8, i: usize) -> bool
     let fall = keeps_by(mag, i, w + 1);
     let down = keeps_by(mag, i, w);
     let rise = keeps_by(mag, i, w - 1);
-    choose::pick_bool(
+    choose::pick(
         dir == 0,
         across,
-        choose::pick_bool(dir == 1, fall, choose::pick_bool(dir == 2, down, rise)),
+        choose::pick(dir == 1, fall, choose::pick(dir == 2, down, rise)),
     )
 }
 
@@ -87,15 +87,15 @@ fn class_row(mag: &[i32], row: &mut [u8], w: usize, h: usize, low: u8, high: u8,
     ensures { row.new ≡ tabulate w (λ x. class_at mag.now w h low high (get_or row.old x 0) x y) }
 {
     if y == 0 {
-        choose::clear_bytes(row);
+        row.fill(0);
         return;
     }
     if h <= y + 1 {
-        choose::clear_bytes(row);
+        row.fill(0);
         return;
     }
     if w < 2 {
-        choose::clear_bytes(row);
+        row.fill(0);
         return;
     }
     inner_row(mag, row, w, h, low, high, y);

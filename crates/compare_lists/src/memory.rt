@@ -29,7 +29,7 @@ pub fn at_most(n: usize, most: usize) -> usize
     ensures value { result ≡ min n most }
     ensures upper_bound { result ≤ most }
 {
-    choose::lesser_usize(n, most)
+    n.min(most)
 }
 
 // w * h; 0 where a side is larger than those of the lists.
@@ -126,7 +126,7 @@ pub fn frame(size: Size, script: &[u8], i: usize) -> Numbers
     let stride = narrow + padding(input::byte(script, i, 6));
     let need = area(stride, h);
     let n = area(w, h);
-    let side = at_most(choose::larger_u32(w, h) as usize, 40);
+    let side = at_most(w.max(h) as usize, 40);
     Numbers {
         width: too_wide(w, fault % 2 == 1),
         height: h,

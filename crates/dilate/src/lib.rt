@@ -80,7 +80,7 @@ fn raise_cell(a: &[u8; 65536], at: usize, r: &mut [u8; 65536])
     let before = at - 16;
     let mut j = 0;
     while j < 16 {
-        r[at + j] = choose::larger_u8(r[before + j], a[at + j]);
+        r[at + j] = r[before + j].max(a[at + j]);
         j += 1;
     }
 }
@@ -120,7 +120,7 @@ fn lower_cell(s: &mut [u8; 65536], at: usize)
     let after = at + 16;
     let mut j = 0;
     while j < 16 {
-        s[at + j] = choose::larger_u8(s[after + j], s[at + j]);
+        s[at + j] = s[after + j].max(s[at + j]);
         j += 1;
     }
 }
@@ -167,7 +167,7 @@ fn store_cell(
 {
     let mut j = 0;
     while j < lanes {
-        plane[first + j * across] = choose::larger_u8(s[p + j], r[q + j]);
+        plane[first + j * across] = s[p + j].max(r[q + j]);
         j += 1;
     }
 }
@@ -222,7 +222,7 @@ fn scatter(
     let mut i = 0;
     while i < count {
         let lo = low(i, half);
-        let hi = choose::lesser_usize(i + half, count - 1);
+        let hi = (i + half).min(count - 1);
         store_window(plane, first + i * step, across, lanes, s, r, last, lo, hi);
         i += 1;
     }
@@ -273,7 +273,7 @@ fn dilate_lines(
     let mut r = [0u8; 65536];
     let mut t = 0;
     while t < lines {
-        let lanes = choose::lesser_usize(16, lines - t);
+        let lanes = (lines - t).min(16);
         dilate_group(
             plane,
             t * across,

@@ -21,7 +21,7 @@ pub fn fill_luma(current: &mut [u8], plane: &[u8], w: usize, h: usize, stride: u
     let n = w * h;
     let m = n + n;
     let e = n + m;
-    choose::clear_bytes(&mut current[0..m]);
+    current[0..m].fill(0);
     arch_planes::copy_plane(&mut current[m..e], plane, w, h, stride);
 }
 

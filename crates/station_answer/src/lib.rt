@@ -32,7 +32,7 @@ pub fn scratch_bytes(width: u32, height: u32) -> u64
     }
     let w = width as u64;
     let h = height as u64;
-    7 * (w * h) + 2 * choose::larger_u64(w, h)
+    7 * (w * h) + 2 * w.max(h)
 }
 
 // How many numbers of 32 bits the magnitudes of a frame of this size are; 0 for a size that every call refuses by 1.

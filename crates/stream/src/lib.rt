@@ -129,7 +129,7 @@ pub fn memory_refusal(
     if store < 4 * n {
         return 12;
     }
-    if scratch < 7 * n + 2 * choose::larger_usize(w, h) {
+    if scratch < 7 * n + 2 * w.max(h) {
         return 13;
     }
     if magnitudes < n {
