@@ -11,14 +11,6 @@ use Rattle.arch_hsv.specs.Hsv.{rounded, value, delta, saturation, degrees, hue}
 use Rattle.arch_hsv.specs.Blocks.{sixths}
 use Rattle.arch_hsv.proofs.Reading.{spread, by-red, by-red-less, by-green, by-blue, degrees-le, or-zero}
 
--- what is added to G so that B can be taken away
-pub pick-red : (b g d x : ℕ) → b ≤ g + d → x ≡ cond (leb b g) 0 (6 * d) → (x ≤ 6 * d) × (b ≤ x + g)
-pick-red b g d x h e = go (dec_lt g b)
-  where
-    go : Dec (g < b) → (x ≤ 6 * d) × (b ≤ x + g)
-    go (yes l) = let p : x ≡ 6 * d = rw (lt-leb b g l) at e in (omega arith, omega arith)
-    go (no l) = let p : x ≡ 0 = rw (le-leb b g (omega (arith, l))) at e in (omega arith, omega (arith, l))
-
 module _ (b g r v d : ℕ) (ev : v ≡ value b g r) (ed : d ≡ delta b g r) where
   cases : (x y z : ℕ) → x ≡ cond (leb b g) 0 (6 * d) → y ≡ cond (eqb v g) (2 * d + b - r) (4 * d + r - g) → z ≡ cond (eqb v r) (x + g - b) y
       → 60 * z ≡ degrees b g r
@@ -79,3 +71,6 @@ hue-is b g r = rw (← exact b g r, halved (sixths b g r) (delta b g r)) (go (eq
 pub saturation-is : (b g r : ℕ) → rounded (255 * delta b g r) (value b g r) ≡ saturation b g r
 unfolding saturation
 saturation-is b g r = or-zero (255 * delta b g r) (value b g r)
+
+-- what the quotients ask of the parts
+pub ruleset of_parts = (spread, sixths-le)

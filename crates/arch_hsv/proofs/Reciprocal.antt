@@ -46,10 +46,9 @@ right_is (suc b) t h n k =
     by_reciprocal n m t e 4294967296 (omega arith) (omega arith) (lt_of_le_of_lt (mul-le-mul_right e k) high)
 
 pub reciprocals-at : (t : List ℕ) → T (every right 0 t) → length t ≡ 256 → Reciprocals t
-unfolding Reciprocals
 reciprocals-at t h l b k = right_is b (get_or t b 0) (at right t h b (omega arith))
 
 -- what `nearest` has of entry b
 pub nearest-is : (t : List ℕ) (a b : ℕ) → Reciprocals t → b < 256 → a ≤ 255 * b → (2 * a + b) * get_or t b 0 / 4294967296 ≡ rounded a b
-unfolding Reciprocals rounded
+unfolding rounded
 nearest-is t a b h k l = h b k (2 * a + b) (omega arith)

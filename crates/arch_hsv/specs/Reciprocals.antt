@@ -6,5 +6,5 @@ abbrev pub Reciprocal : ℕ → ℕ → Type 0
 Reciprocal b t = (n : ℕ) → n ≤ 511 * b → n * t / 4294967296 ≡ n / (2 * b)
 
 -- entry b is for 2b
-unfoldable pub Reciprocals : List ℕ → Type 0
+abbrev pub Reciprocals : List ℕ → Type 0
 Reciprocals t = (b : ℕ) → b < 256 → Reciprocal b (get_or t b 0)

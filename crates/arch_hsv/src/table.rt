@@ -1,6 +1,9 @@
-// Reciprocals of the even numbers to 510: entry b is 2^32 / (2 * b), rounded up, and 0 for b = 0.
+// Quotients by a table of reciprocals.
+ghost use Rattle.std.specs.Prelude.{◌≡◌, ◌*◌, ◌≤◌};
+ghost use Rattle.arch_hsv.specs.Hsv.{rounded};
 ghost use Rattle.arch_hsv.specs.Reciprocals.{Reciprocals};
 
+// Reciprocals of the even numbers to 510: entry b is 2^32 / (2 * b), rounded up, and 0 for b = 0.
 const RECIPROCALS: [u32; 256] = [
     0, 2147483648, 1073741824, 715827883, 536870912, 429496730, 357913942, 306783379, 268435456,
     238609295, 214748365, 195225787, 178956971, 165191050, 153391690, 143165577, 134217728,
@@ -33,8 +36,26 @@ const RECIPROCALS: [u32; 256] = [
     8421505,
 ];
 
-pub fn reciprocals() -> [u32; 256]
-    ensures { Reciprocals result }
-{
-    RECIPROCALS
+// Divides by the reciprocals.
+#[derive(Drop)]
+pub struct Divider {
+    reciprocals: [u32; 256],
+    ghost right: { Reciprocals reciprocals },
+}
+
+impl Divider {
+    pub fn new() -> Divider {
+        Divider {
+            reciprocals: RECIPROCALS,
+        }
+    }
+
+    // a / b to the nearest, halves up, by the reciprocal of 2b; 0 for b = 0.
+    pub fn nearest(&self, a: u32, b: u8) -> u32
+        requires { a ≤ 255 * b }
+        ensures { result ≡ rounded a b }
+    {
+        let n = 2 * a + b as u32;
+        (n as u64 * self.reciprocals[b as usize] as u64 / 4294967296) as u32
+    }
 }

@@ -3,7 +3,7 @@
 
 ghost use Rattle.std.specs.Prelude.{◌≡◌, ℕ, ◌+◌, ◌*◌, ◌^◌, ◌<◌, ◌≤◌, length};
 ghost use Rattle.arch_planes.specs.Packed.{packed};
-ghost use Rattle.arch_planes.specs.Difference.{dist, sum_abs_diff, mean_of, mean_abs_diff};
+ghost use Rattle.arch_planes.specs.Difference.{sum_abs_diff, mean_of, mean_abs_diff};
 
 // How much two planes of bytes differ: the whole sum of the absolute differences, the number of pixels, and the mean, which is the sum
 // over that number by one division, 0.0 for no pixels.
@@ -19,11 +19,7 @@ pub fn copy_row(dst: &mut [u8], src: &[u8])
     requires { length dst.old ≡ length src.now }
     ensures { dst.new ≡ src.now }
 {
-    let mut i = 0;
-    while i < src.len() {
-        dst[i] = src[i];
-        i += 1;
-    }
+    dst.copy_from_slice(src);
 }
 
 // Packs h rows of w bytes into dst, which is w * h bytes long, from parts of src: row y is the part that starts at
@@ -33,25 +29,11 @@ pub fn copy_plane(dst: &mut [u8], src: &[u8], w: usize, h: usize, stride: usize)
     requires by_index { (y : ℕ) → y < h → y * stride + w ≤ length src.now }
     ensures { dst.new ≡ packed src.now w h stride }
 {
-    let mut y = 0;
-    while y < h {
-        let a = y * w;
-        let e = a + w;
-        let p = y * stride;
-        let q = p + w;
-        copy_row(&mut dst[a..e], &src[p..q]);
-        y += 1;
+    for y in 0..h {
+        let start = y * w;
+        let from = y * stride;
+        dst[start..start + w].copy_from_slice(&src[from..from + w]);
     }
-}
-
-// |x - y|.
-fn abs_diff(x: u8, y: u8) -> u32
-    ensures { result ≡ dist x y }
-{
-    if x < y {
-        return (y - x) as u32;
-    }
-    (x - y) as u32
 }
 
 // The whole sum of the absolute differences of the bytes of a and b. 2^24 bytes are the most of a frame, and
@@ -61,23 +43,14 @@ fn sum_abs_diff(a: &[u8], b: &[u8]) -> u32
     requires a_len_bound { length a.now ≤ 2 ^ 24 }
     ensures { result ≡ sum_abs_diff a.now b.now }
 {
-    let mut total: u32 = 0;
-    let mut i = 0;
-    while i < a.len() {
-        total += abs_diff(a[i], b[i]);
-        i += 1;
-    }
-    total
+    a.iter().zip(b).map(|(x, y)| x.abs_diff(*y) as u32).sum()
 }
 
 // A whole sum over a count of pixels, by one division; 0.0 for no pixels.
 pub fn mean_of(total: u32, n: u32) -> f64
     ensures { result ≡ mean_of total n }
 {
-    if n == 0 {
-        return 0.0;
-    }
-    total as f64 / n as f64
+    if n == 0 { 0.0 } else { total as f64 / n as f64 }
 }
 
 // The difference of the planes a and b: whole sum, count and mean.
@@ -86,11 +59,11 @@ pub fn mean_abs_diff(a: &[u8], b: &[u8]) -> PlaneDifference
     requires a_len_bound { length a.now ≤ 2 ^ 24 }
     ensures { result ≡ mean_abs_diff a.now b.now }
 {
-    let total = sum_abs_diff(a, b);
-    let n = a.len() as u32;
+    let sum = sum_abs_diff(a, b);
+    let count = a.len() as u32;
     PlaneDifference {
-        sum: total,
-        count: n,
-        mean: mean_of(total, n),
+        sum,
+        count,
+        mean: mean_of(sum, count),
     }
 }

@@ -6,7 +6,8 @@ use Prim.Native.Nat.{ℕ, ◌+◌, ◌*◌, ◌<◌, ◌≤◌}
 use native.Mathlib.Omega.{arith}
 use lib.Dec.{ltb}
 use lib.IntN.{ℤ, pos, nat_abs}
-use lib.ListN.{length}
+use lib.ListN.{length, replicate}
+use Rattle.std.proofs.lemmas.List.{length-replicate, get_or-replicate}
 use borrow.Author.Tests.{ltb-true, lt-ltb, le-ltb}
 use Rattle.laws.specs.Lists.{tabulate}
 use Rattle.laws.proofs.Bools.{and-true}
@@ -79,9 +80,22 @@ pub zeros-are : {A : Type 0} (d : A) (w : ℕ) (f : ℕ → A) (l : List A) → 
 zeros-are d w f l z e =
     is-tabulate d l w f (ap length e ∙ length-tabulate w _) (λ i h. rw e (get_d_tabulate w _ d i h ∙ z i h))
 
-pub border-row : (s : List ℕ) (w h y : ℕ) (m : List ℤ) (d : List ℕ) → ((x : ℕ) → x < w → inner w h x y ≡ false) → m ≡ tabulate w (λ _. pos 0) → d ≡ tabulate w (λ _. 0)
-    → (m ≡ tabulate w (λ x. mag_at s w h x y)) × (d ≡ tabulate w (λ x. dir_at s w h x y))
-border-row s w h y m d o em ed = (
-  zeros-are (pos 0) w _ m (λ x b. (at-border s w h x y (o x b)).0) em,
-  zeros-are 0 w _ d (λ x b. (at-border s w h x y (o x b)).1) ed,
-)
+-- a row that is cleared, and is at the border or too short to have an inner place
+cleared : {A : Type 0} (d : A) (w n : ℕ) (f : ℕ → A) (l : List A) → n ≡ w → ((x : ℕ) → x < w → d ≡ f x) → l ≡ replicate n d → l ≡ tabulate w f
+cleared d w n f l en z e =
+    is-tabulate d l w f (ap length e ∙ length-replicate n d ∙ en)
+    (λ i h. let b : i < n = omega (arith, en) in rw e (get_or-replicate n i d d b ∙ z i h))
+
+not-inner : (w h x y : ℕ) → (0 < y → y + 1 < h → 1 < w → ⊥) → inner w h x y ≡ false
+not-inner w h x y o = go (inner w h x y) refl
+  where
+    go : (t : Bool) → inner w h x y ≡ t → inner w h x y ≡ false
+    go true e = let i = within w h x y (w * h) e refl in absurd (o i.top i.bottom (omega (arith, i.right)))
+    go false e = e
+
+module _ (s : List ℕ) (w h y : ℕ) (o : 0 < y → y + 1 < h → 1 < w → ⊥) where
+  pub border-mag : (n : ℕ) (m : List ℤ) → n ≡ w → m ≡ replicate n (pos 0) → m ≡ tabulate w (λ x. mag_at s w h x y)
+  border-mag n m en e = cleared (pos 0) w n _ m en (λ x _. (at-border s w h x y (not-inner w h x y o)).0) e
+
+  pub border-dir : (n : ℕ) (d : List ℕ) → n ≡ w → d ≡ replicate n 0 → d ≡ tabulate w (λ x. dir_at s w h x y)
+  border-dir n d en e = cleared 0 w n _ d en (λ x _. (at-border s w h x y (not-inner w h x y o)).1) e

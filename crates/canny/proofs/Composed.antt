@@ -1,12 +1,10 @@
 -- The planes of `Edges` by what the stages give.
-use mathlib.Core.Path.{◌≡◌, sym, ◌∙◌}
+use mathlib.Core.Path.{◌≡◌}
 use mathlib.Core.List.{List}
 use Prim.Native.Nat.{ℕ, ◌*◌, ◌≤◌, ◌<◌}
 use lib.IntN.{ℤ}
-use lib.ListN.{replicate, length-replicate, get_or-replicate}
+use lib.ListN.{replicate}
 use borrow.Author.Tests.{lt-ltb, le-ltb}
-use Rattle.laws.specs.Lists.{tabulate}
-use Rattle.laws.proofs.Tab.{is-tabulate}
 use Rattle.arch_sobel.specs.Sobel.{sobel_mag, sobel_dir}
 use Rattle.canny_marks.specs.Median.{median_of}
 use Rattle.canny_marks.specs.Marks.{low_mark, high_mark}
@@ -15,11 +13,6 @@ use Rattle.canny_hysteresis.specs.Sweeps.{strong_pixels}
 use Rattle.dilate.specs.Dilate.{dilated}
 use Rattle.canny.specs.Edges.{class_plane, strong_plane, edge_plane}
 
--- a plane of n bytes that are 0, by index and by repetition
-pub cleared : (n : ℕ) → tabulate {A = ℕ} n (λ _. 0) ≡ replicate n 0
-cleared n =
-    sym (is-tabulate 0 (replicate n 0) n (λ _. 0) (length-replicate {A = ℕ} n 0) (λ k b. get_or-replicate {A = ℕ} n k 0 0 b))
-
 pub strong-is : (luma dir classes out : List ℕ) (mag : List ℤ) (w h m low high : ℕ) → m ≡ median_of luma → low ≡ low_mark m → high ≡ high_mark m
     → mag ≡ sobel_mag luma w h → dir ≡ sobel_dir luma w h → classes ≡ thinned mag dir w h low high → out ≡ strong_pixels w h classes
     → out ≡ strong_plane luma w h
@@ -27,13 +20,13 @@ unfolding strong_plane class_plane
 strong-is luma dir classes out mag w h m low high p q r a b c d = cc
 
 module _ (luma out : List ℕ) (w h k : ℕ) where
-  pub narrow-is : {n : ℕ} → w < 3 → n ≡ w * h → out ≡ tabulate {A = ℕ} n (λ _. 0) → out ≡ edge_plane luma w h k
+  pub narrow-is : {n : ℕ} → w < 3 → n ≡ w * h → out ≡ replicate n 0 → out ≡ edge_plane luma w h k
   unfolding edge_plane
-  narrow-is a n e = rw (lt-ltb w 3 a) ((rw n at e) ∙ cleared (w * h))
+  narrow-is a n e = rw (lt-ltb w 3 a) (rw n at e)
 
-  pub low-is : {n : ℕ} → 3 ≤ w → h < 3 → n ≡ w * h → out ≡ tabulate {A = ℕ} n (λ _. 0) → out ≡ edge_plane luma w h k
+  pub low-is : {n : ℕ} → 3 ≤ w → h < 3 → n ≡ w * h → out ≡ replicate n 0 → out ≡ edge_plane luma w h k
   unfolding edge_plane
-  low-is a b n e = rw (le-ltb w 3 a, lt-ltb h 3 b) ((rw n at e) ∙ cleared (w * h))
+  low-is a b n e = rw (le-ltb w 3 a, lt-ltb h 3 b) (rw n at e)
 
   pub edge-is : {s : List ℕ} → 3 ≤ w → 3 ≤ h → s ≡ strong_plane luma w h → out ≡ dilated s w h k → out ≡ edge_plane luma w h k
   unfolding edge_plane

@@ -29,8 +29,8 @@ pub fn edge_plane(luma: &[u8], mag: &mut [i32], edges: &mut [u8], w: usize, h: u
 {
     if w < 3 || h < 3 {
         edges.fill(0);
-        return;
+    } else {
+        strong_plane(luma, mag, edges, w, h);
+        dilate::dilate(edges, w, h, k);
     }
-    strong_plane(luma, mag, edges, w, h);
-    dilate::dilate(edges, w, h, k);
 }

@@ -1,102 +1,91 @@
 // Hysteresis: from a plane of weak (1) and strong (2) pixels to the plane of those that are strong after two rounds of sweeps.
 #![tactic(auto)]
 
-ghost use Rattle.std.specs.Prelude.{◌≡◌, ◌||◌, List, [], ◌∷◌, map, ℕ, ◌+◌, ◌-◌, ◌*◌, ◌<◌, ◌≤◌, eqb, length};
-ghost use Rattle.canny_hysteresis.specs.Sweeps.{upper, lower, visit, rising, falling, sweep_row, sweep, round, whitened, strong_pixels};
+ghost use Rattle.std.specs.Prelude.{◌≡◌, map, ◌+◌, ◌*◌, ◌^◌, ◌<◌, ◌≤◌, length, All};
+ghost use Rattle.canny_hysteresis.specs.Sweeps.{any_strong, visit, sweep_row, sweep, whitened, strong_pixels};
+ghost use Rattle.canny_hysteresis.specs.Ways.{beside, order};
 
-// `|` and not `||`: no branch, and the value is the definition's own.
-fn any_strong(a: u8, b: u8, c: u8, d: u8) -> bool
-    ensures { result ≡ (eqb a 2 || (eqb b 2 || (eqb c 2 || eqb d 2))) }
-{
-    (a == 2) | ((b == 2) | ((c == 2) | (d == 2)))
+// The way of a sweep: down the rows, each from the left, or up the rows, each from the right.
+#[derive(Clone, Copy)]
+enum Way {
+    Forward,
+    Backward,
 }
 
-// Place i turns from weak into strong where one of the places a, b, c and d is strong.
-fn visit_place(s: &mut [u8], i: usize, a: usize, b: usize, c: usize, d: usize)
-    requires { (i < length s.old) × ((a < length s.old) × ((b < length s.old) × ((c < length s.old) × (d < length s.old)))) }
-    ensures { s.new ≡ visit i (a ∷ b ∷ c ∷ d ∷ []) s.old }
-{
-    if s[i] == 1 {
-        if any_strong(s[a], s[b], s[c], s[d]) {
-            s[i] = 2;
-            return;
+impl Way {
+    // Of n rows or columns the inner one that is visited k-th, counted from 0.
+    fn inner(self, n: usize, k: usize) -> usize
+        requires { k + 2 < n }
+        ensures nth { result ≡ order self n k }
+        ensures inner { (1 ≤ result) × (result + 1 < n) }
+    {
+        match self {
+            Way::Forward => k + 1,
+            Way::Backward => n - 2 - k,
+        }
+    }
+
+    // The four places that are looked at beside column x of row y, in a plane of w columns.
+    fn beside(self, w: usize, x: usize, y: usize) -> [usize; 4]
+        requires { (1 ≤ x) × (1 ≤ y) × ((y + 1) * w + x + 1 < 2 ^ 64) }
+        ensures { result ≡ beside self w x y }
+    {
+        let i = y * w + x;
+        match self {
+            Way::Forward => [i - w - 1, i - w, i - w + 1, i - 1],
+            Way::Backward => [i + w + 1, i + w, i + w - 1, i + 1],
         }
     }
 }
 
-// The inner places of row y, from the left.
-fn forward_row(s: &mut [u8], w: usize, y: usize)
+// Whether one of the four places is strong. `|` and not `||`: no branch.
+fn any_strong(s: &[u8], places: [usize; 4]) -> bool
+    requires { All (λ p. p < length s.now) places }
+    ensures { result ≡ any_strong s.now places }
+{
+    let [a, b, c, d] = places;
+    (s[a] == 2) | (s[b] == 2) | (s[c] == 2) | (s[d] == 2)
+}
+
+// Place i turns from weak into strong where one of the four places beside it is strong.
+fn visit_place(s: &mut [u8], i: usize, beside: [usize; 4])
+    requires { (i < length s.old) × All (λ p. p < length s.old) beside }
+    ensures { s.new ≡ visit i beside s.old }
+{
+    if s[i] == 1 && any_strong(s, beside) {
+        s[i] = 2;
+    }
+}
+
+// The inner places of row y.
+// Kept: the sides go beside the plane, and its length is a clause of `sweep` and of `hysteresis`. As a struct with a ghost field for the length
+// (tried), the plane is written through, so each sweep's contract and loop has to say that the sides stay: more clauses, not fewer.
+fn sweep_row(s: &mut [u8], w: usize, y: usize, way: Way)
     requires { (1 ≤ y) × ((y + 1) * w + w ≤ length s.old) }
-    ensures { s.new ≡ sweep_row upper rising w y s.old }
+    ensures { s.new ≡ sweep_row (beside way) (order way) w y s.old }
 {
-    let mut x = 1;
-    while x + 1 < w {
-        let i = y * w + x;
-        visit_place(s, i, i - w - 1, i - w, i - w + 1, i - 1);
-        x += 1;
+    for k in 0..w.saturating_sub(2) {
+        let x = way.inner(w, k);
+        visit_place(s, y * w + x, way.beside(w, x, y));
     }
 }
 
-// The inner places of row y, from the right.
-fn backward_row(s: &mut [u8], w: usize, y: usize)
-    requires { (1 ≤ y) × ((y + 1) * w + w ≤ length s.old) }
-    ensures { s.new ≡ sweep_row lower falling w y s.old }
-{
-    let mut end = w;
-    while 2 < end {
-        let i = y * w + (end - 2);
-        visit_place(s, i, i + w + 1, i + w, i + w - 1, i + 1);
-        end -= 1;
-    }
-}
-
-fn forward_sweep(s: &mut [u8], w: usize, h: usize)
+// The inner rows.
+fn sweep(s: &mut [u8], w: usize, h: usize, way: Way)
     requires { length s.old ≡ w * h }
-    ensures { s.new ≡ sweep upper rising w h s.old }
+    ensures { s.new ≡ sweep (beside way) (order way) w h s.old }
 {
-    let mut y = 1;
-    while y + 1 < h {
-        forward_row(s, w, y);
-        y += 1;
+    for k in 0..h.saturating_sub(2) {
+        sweep_row(s, w, way.inner(h, k), way);
     }
-}
-
-fn backward_sweep(s: &mut [u8], w: usize, h: usize)
-    requires { length s.old ≡ w * h }
-    ensures { s.new ≡ sweep lower falling w h s.old }
-{
-    let mut end = h;
-    while 2 < end {
-        backward_row(s, w, end - 2);
-        end -= 1;
-    }
-}
-
-fn sweep_round(s: &mut [u8], w: usize, h: usize)
-    requires { length s.old ≡ w * h }
-    ensures { s.new ≡ round w h s.old }
-{
-    forward_sweep(s, w, h);
-    backward_sweep(s, w, h);
-}
-
-fn white(v: u8) -> u8
-    ensures { result ≡ whitened v }
-{
-    if v == 2 {
-        return 255;
-    }
-    0
 }
 
 // Strong becomes 255, anything else 0.
 fn whiten(s: &mut [u8])
     ensures { s.new ≡ map whitened s.old }
 {
-    let mut i = 0;
-    while i < s.len() {
-        s[i] = white(s[i]);
-        i += 1;
+    for v in s.iter_mut() {
+        *v = if *v == 2 { 255 } else { 0 };
     }
 }
 
@@ -105,10 +94,9 @@ pub fn hysteresis(classes: &mut [u8], w: usize, h: usize)
     requires { length classes.old ≡ w * h }
     ensures { classes.new ≡ strong_pixels w h classes.old }
 {
-    let mut n: usize = 0;
-    while n < 2 {
-        sweep_round(classes, w, h);
-        n += 1;
+    'rounds: for _ in 0..2u8 {
+        sweep(classes, w, h, Way::Forward);
+        sweep(classes, w, h, Way::Backward);
     }
     whiten(classes);
 }

@@ -2,7 +2,7 @@
 use mathlib.Core.Path.{◌≡◌, refl}
 use mathlib.Core.Bool.{Bool, true, false, cond}
 use mathlib.Core.Logic.{◌⊎◌, inl, inr}
-use Prim.Native.Nat.{ℕ, zero, suc, ◌+◌, ◌*◌, ◌/◌, ◌^◌, ◌≤◌, ◌<◌}
+use Prim.Native.Nat.{ℕ, zero, suc, ◌+◌, ◌*◌, ◌/◌, ◌≤◌, ◌<◌}
 use native.Mathlib.Nat.{mul-le-mul, le-div_iff_mul-le}
 use native.Mathlib.Decide.{dec_lt}
 use native.Mathlib.Omega.{arith}
@@ -61,18 +61,14 @@ spread-is n d p h = go (spread-greatest n).passes ((spread-greatest n).all d p) 
         let g : reach (d + 1) * reach (d + 1) ≤ reach (spread n) * reach (spread n) = mul-le-mul (omega arith) (omega arith) in
         absurd (omega arith)
 
--- by steps of 192, from the reach of 1: what a loop knows of r, the reach of d + 1
-module _ (n d r : ℕ) (e : r ≡ 96 + 192 * d) where
-  pub passes-next : r * r ≤ n → Passes n (d + 1)
-  passes-next h = let s : reach (d + 1) ≡ r = omega arith in inr (rw s h)
+-- by the root r of n, rounded down: 96 × (2d - 1) is at most r, and 96 × (2d + 1) over it
+root_passes : (n r d : ℕ) → r * r ≤ n → d ≡ (r / 96 + 1) / 2 → Passes n d
+root_passes n r zero a q = inl refl
+root_passes n r (suc d) a q =
+    let m : reach (suc d) * reach (suc d) ≤ r * r = mul-le-mul (omega arith) (omega arith) in
+    inr (omega arith)
 
-  pub spread_at : Passes n d → n < r * r → d ≡ spread n
-  spread_at p h = let s : reach (d + 1) ≡ r = omega arith in spread-is n d p (rw s h)
-
--- a number whose square has 64 bits has 32
-pub root-fits : (r n : ℕ) → r * r ≤ n → n < 2 ^ 64 → r < 2 ^ 32
-root-fits r n h k = go (dec_lt r (2 ^ 32))
-  where
-    go : Dec (r < 2 ^ 32) → r < 2 ^ 32
-    go (yes b) = b
-    go (no b) = let m : 4294967296 * 4294967296 ≤ r * r = mul-le-mul {n₁ = 4294967296} {m₁ = 4294967296} {n₂ = r} {m₂ = r} (omega (arith, b)) (omega (arith, b)) in absurd (omega arith)
+pub spread_root : (n r d : ℕ) → r * r ≤ n → n < (r + 1) * (r + 1) → d ≡ (r / 96 + 1) / 2 → d ≡ spread n
+spread_root n r d a b q =
+    let m : (r + 1) * (r + 1) ≤ reach (d + 1) * reach (d + 1) = mul-le-mul (omega arith) (omega arith) in
+    spread-is n d (root_passes n r d a q) (omega arith)

@@ -1,3 +1,4 @@
 pub mod Counts
 pub mod Sorted
 pub mod Greatest
+pub mod Tables

@@ -13,12 +13,9 @@ mod table;
 fn histogram(buf: &[u8]) -> [usize; 256]
     ensures { result ≡ tabulate 256 (λ v. count (λ b. eqb b v) buf.now) }
 {
-    let mut hist = [0usize; 256];
-    let mut i = 0;
-    while i < buf.len() {
-        let v = buf[i] as usize;
-        hist[v] += 1;
-        i += 1;
+    let mut hist = [0; 256];
+    for &b in buf {
+        hist[usize::from(b)] += 1;
     }
     hist
 }
@@ -29,14 +26,12 @@ pub fn median_u8(buf: &[u8]) -> u8
 {
     let hist = histogram(buf);
     let half = buf.len() / 2;
-    let mut cum: usize = 0;
-    let mut v: usize = 0;
-    while v < 256 {
-        cum += hist[v];
+    let mut cum = 0;
+    for (v, &n) in hist.iter().enumerate() {
+        cum += n;
         if half < cum {
             return v as u8;
         }
-        v += 1;
     }
     255
 }
@@ -45,33 +40,23 @@ pub fn median_u8(buf: &[u8]) -> u8
 pub fn low_threshold(median: u8) -> u8
     ensures { result ≡ low_mark median }
 {
-    let marks = table::low_marks();
-    marks[median as usize]
+    table::LOW_MARKS[usize::from(median)]
 }
 
 // The high mark of a median (RULES 5.5).
 pub fn high_threshold(median: u8) -> u8
     ensures { result ≡ high_mark median }
 {
-    let marks = table::high_marks();
-    marks[median as usize]
+    table::HIGH_MARKS[usize::from(median)]
 }
 
 // The side k of the window for a frame of this size, where no k is set (RULES 5.13).
 pub fn auto_kernel_size(width: u32, height: u32) -> u32
     ensures { result ≡ auto_kernel_size width height }
 {
-    let n = (width as u64) * (height as u64);
-    let mut d: u64 = 0;
-    let mut reach: u64 = 96;
-    // reach is that of d + 1
-    while reach <= n / reach {
-        d += 1;
-        reach += 192;
-    }
-    let k = (4 + d) as u32;
-    if k % 2 == 0 {
-        return k + 1;
-    }
-    k
+    let n = u64::from(width) * u64::from(height);
+    // 96 × (2d - 1) is at most the root, and 96 × (2d + 1) over it
+    let d = (n.isqrt() / 96 + 1) / 2;
+    let k = 4 + d as u32;
+    if k % 2 == 0 { k + 1 } else { k }
 }

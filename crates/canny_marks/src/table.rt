@@ -1,9 +1,5 @@
 // The marks of the medians 0 to 255, as two tables for people to read: a line has sixteen marks, below the median of the first.
-ghost use Rattle.std.specs.Prelude.{◌≡◌};
-ghost use Rattle.laws.specs.Lists.{tabulate};
-ghost use Rattle.canny_marks.specs.Marks.{low_mark, high_mark};
-
-const LOW_MARKS: [u8; 256] = [
+pub const LOW_MARKS: [u8; 256] = [
     /*   0 */
     0, 0, 1, 1, 2, 3, 3, 4, 5, 5, 6, 7, 7, 8, 9, 9,
     /*  16 */
@@ -38,7 +34,7 @@ const LOW_MARKS: [u8; 256] = [
     159, 160, 161, 161, 162, 163, 163, 164, 165, 165, 166, 167, 167, 168, 169, 169,
 ];
 
-const HIGH_MARKS: [u8; 256] = [
+pub const HIGH_MARKS: [u8; 256] = [
     /*   0 */
     0, 1, 2, 4, 5, 6, 8, 9, 10, 12, 13, 14, 16, 17, 18, 20,
     /*  16 */
@@ -72,17 +68,3 @@ const HIGH_MARKS: [u8; 256] = [
     /* 240 */
     255, 255, 255, 255, 255, 255, 255, 255, 255, 255, 255, 255, 255, 255, 255, 255,
 ];
-
-// The low marks. The table as a whole is the list of the rule's marks (RULES 5.4).
-pub fn low_marks() -> [u8; 256]
-    ensures { result ≡ tabulate 256 low_mark }
-{
-    LOW_MARKS
-}
-
-// The high marks. The table as a whole is the list of the rule's marks (RULES 5.5).
-pub fn high_marks() -> [u8; 256]
-    ensures { result ≡ tabulate 256 high_mark }
-{
-    HIGH_MARKS
-}

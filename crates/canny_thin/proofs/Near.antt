@@ -5,7 +5,7 @@ use mathlib.Core.List.{List}
 use Prim.Native.Nat.{ℕ, zero, suc, ◌+◌, ◌-◌, ◌*◌, ◌≤◌, ◌<◌}
 use native.Mathlib.Omega.{arith}
 use lib.Dec.{eqb}
-use lib.ListN.{length, get_or}
+use lib.ListN.{length, get_or, replicate, length-replicate, get_or-replicate}
 use borrow.Author.Tests.{ne_eqb}
 use lib.IntN.{ℤ, pos}
 use lib.Signed.{le_z, lt_z}
@@ -13,14 +13,15 @@ use mir.Val.{bool_byte}
 use Rattle.laws.proofs.InPlace.{row_before}
 use Rattle.arch_sobel.specs.Sobel.{inner}
 use Rattle.laws.specs.Lists.{tabulate}
-use Rattle.arch_sobel.proofs.Inner.{Within, zeros-are}
+use Rattle.laws.proofs.Tab.{is-tabulate}
+use Rattle.arch_sobel.proofs.Inner.{Within, within}
 use Rattle.canny_thin.specs.Step.{step_of, stays_by, stays_along}
 use Rattle.canny_thin.specs.Thin.{ahead, behind, stays, class_of, class_at, magnitude}
 
--- what `bit` promises
-pub bit_is : (t : Bool) → (bool_byte t ≡ cond t 1 0) × (bool_byte t ≤ 1)
-bit_is true = (refl, omega arith)
-bit_is false = (refl, omega arith)
+-- a test as a number
+pub bit_is : (t : Bool) → bool_byte t ≡ cond t 1 0
+bit_is true = refl
+bit_is false = refl
 
 -- the four ways tried and one picked
 pub along-is : (mag : List ℤ) (w d i : ℕ) (across fall down rise p q r : Bool) → across ≡ stays_by mag i 1 → fall ≡ stays_by mag i (w + 1)
@@ -97,8 +98,13 @@ module _ (mag : List ℤ) (w h low high d x y : ℕ) where
   unfolding class_at
   class-border p = rw p
 
--- a row without an inner place is 0
-pub class-zeros : (mag : List ℤ) (w h low high y : ℕ) (row m : List ℕ) → length row ≡ w → ((x : ℕ) → x < w → inner w h x y ≡ false) → m ≡ tabulate (length row) (λ _. 0)
+-- a row of zeros is that of classes where it has no inner place
+pub class-zeros : (mag : List ℤ) (w h low high y n : ℕ) (row m : List ℕ) → n ≡ w → (0 < y → y + 1 < h → 1 < w → ⊥) → m ≡ replicate n 0
     → m ≡ tabulate w (λ x. class_at mag w h low high (get_or row x 0) x y)
-class-zeros mag w h low high y row m l o e =
-    zeros-are 0 w (λ x. class_at mag w h low high (get_or row x 0) x y) m (λ x b. class-border mag w h low high (get_or row x 0) x y (o x b)) (rw l at e)
+class-zeros mag w h low high y n row m l o e =
+    is-tabulate 0 m w (λ x. class_at mag w h low high (get_or row x 0) x y) (ap length e ∙ length-replicate {A = ℕ} n 0 ∙ l)
+    (λ x b. ap (λ (t : List ℕ). get_or t x 0) e ∙ get_or-replicate {A = ℕ} n x 0 0 (omega (arith, l)) ∙ class-border mag w h low high (get_or row x 0) x y (outside x (inner w h x y) refl))
+  where
+    outside : (x : ℕ) (t : Bool) → inner w h x y ≡ t → inner w h x y ≡ false
+    outside x true q = let i = within w h x y (w * h) q refl in absurd (o i.top i.bottom (omega (arith, i.right)))
+    outside x false q = q

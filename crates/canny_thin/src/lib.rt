@@ -14,13 +14,6 @@ fn keeps(m: i32, a: i32, b: i32) -> bool
     (0 < m) & ((a <= m) & (b <= m))
 }
 
-// 1 where b holds, else 0.
-fn bit(b: bool) -> usize
-    ensures { (result ≡ cond b 1 0) × (result ≤ 1) }
-{
-    b as usize
-}
-
 // Whether the pixel at place i stays, against the places s further on and s back.
 fn keeps_by(mag: &[i32], i: usize, s: usize) -> bool
     requires { (s ≤ i) × (i + s < length mag.now) }
@@ -50,55 +43,60 @@ fn keeps_along(mag: &[i32], w: usize, dir: u8, i: usize) -> bool
 fn class_of(stay: bool, m: i32, low: u8, high: u8) -> u8
     ensures { result ≡ cond stay (class_of low high m) 0 }
 {
-    let strong = high as i32 <= m;
-    let weak = low as i32 <= m;
-    (bit(stay & strong) + bit(stay & (strong | weak))) as u8
+    let strong = i32::from(high) <= m;
+    let weak = i32::from(low) <= m;
+    u8::from(stay & strong) + u8::from(stay & (strong | weak))
 }
 
-// At an inner place.
-fn class_at(mag: &[i32], w: usize, h: usize, low: u8, high: u8, dir: u8, x: usize, y: usize) -> u8
-    requires inner { Inner w h x y }
-    requires mag_len { length mag.now ≡ w * h }
-    ensures { result ≡ class_at mag.now w h low high dir x y }
-{
-    let i = y * w + x;
-    let stay = keeps_along(mag, w, dir, i);
-    class_of(stay, mag[i], low, high)
+// A plane of magnitudes of w columns and h rows, and the marks of its classes.
+#[derive(Clone, Copy)]
+struct Plane<'a> {
+    mag: &'a [i32],
+    w: usize,
+    h: usize,
+    low: u8,
+    high: u8,
+    ghost packed: { length mag.now ≡ w * h },
 }
 
-// Row y, where it is not at the border.
-fn inner_row(mag: &[i32], row: &mut [u8], w: usize, h: usize, low: u8, high: u8, y: usize)
-    requires lt_w { (1 < w) × ((0 < y) × (y + 1 < h)) }
-    requires mag_len { (length mag.now ≡ w * h) × (length row.old ≡ w) }
-    ensures { row.new ≡ tabulate w (λ x. class_at mag.now w h low high (get_or row.old x 0) x y) }
-{
-    row[0] = 0;
-    let mut x = 1;
-    while x + 1 < w {
-        row[x] = class_at(mag, w, h, low, high, row[x], x, y);
-        x += 1;
+impl Plane<'_> {
+    // The class at an inner place of direction dir.
+    fn class_at(&self, dir: u8, x: usize, y: usize) -> u8
+        requires { Inner self.now.w self.now.h x y }
+        ensures { result ≡ class_at self.now.mag.now self.now.w self.now.h self.now.low self.now.high dir x y }
+    {
+        let i = y * self.w + x;
+        let stay = keeps_along(self.mag, self.w, dir, i);
+        class_of(stay, self.mag[i], self.low, self.high)
     }
-    row[x] = 0;
-}
 
-// Row y; 0 throughout at the border.
-fn class_row(mag: &[i32], row: &mut [u8], w: usize, h: usize, low: u8, high: u8, y: usize)
-    requires { (y < h) × ((length mag.now ≡ w * h) × (length row.old ≡ w)) }
-    ensures { row.new ≡ tabulate w (λ x. class_at mag.now w h low high (get_or row.old x 0) x y) }
-{
-    if y == 0 {
-        row.fill(0);
-        return;
+    // Row y, where it is not at the border.
+    fn inner_row(&self, row: &mut [u8], y: usize)
+        requires wide { 1 < self.now.w }
+        requires inner { (0 < y) × (y + 1 < self.now.h) }
+        requires row_len { length row.old ≡ self.now.w }
+        ensures { row.new ≡ tabulate self.now.w (λ x. class_at self.now.mag.now self.now.w self.now.h self.now.low self.now.high (get_or row.old x 0) x y) }
+    {
+        let last = self.w - 1;
+        row[0] = 0;
+        for x in 1..last {
+            row[x] = self.class_at(row[x], x, y);
+        }
+        row[last] = 0;
     }
-    if h <= y + 1 {
-        row.fill(0);
-        return;
+
+    // Row y of directions becomes that of classes; 0 throughout at the border.
+    fn row(&self, row: &mut [u8], y: usize)
+        requires y_lt_h { y < self.now.h }
+        requires row_len { length row.old ≡ self.now.w }
+        ensures { row.new ≡ tabulate self.now.w (λ x. class_at self.now.mag.now self.now.w self.now.h self.now.low self.now.high (get_or row.old x 0) x y) }
+    {
+        if 0 < y && y + 1 < self.h && 1 < self.w {
+            self.inner_row(row, y);
+        } else {
+            row.fill(0);
+        }
     }
-    if w < 2 {
-        row.fill(0);
-        return;
-    }
-    inner_row(mag, row, w, h, low, high, y);
 }
 
 // The direction plane becomes the class plane, in place: a pixel's class needs its own direction alone, and the magnitudes around it.
@@ -106,11 +104,15 @@ pub fn non_max_suppress(mag: &[i32], dir: &mut [u8], w: usize, h: usize, low: u8
     requires { (length mag.now ≡ w * h) × (length dir.old ≡ w * h) }
     ensures { dir.new ≡ thinned mag.now dir.old w h low high }
 {
-    let mut y = 0;
-    while y < h {
-        let a = y * w;
-        let e = a + w;
-        class_row(mag, &mut dir[a..e], w, h, low, high, y);
-        y += 1;
+    let plane = Plane {
+        mag,
+        w,
+        h,
+        low,
+        high,
+    };
+    for y in 0..h {
+        let start = y * w;
+        plane.row(&mut dir[start..start + w], y);
     }
 }

@@ -8,7 +8,7 @@ use Rattle.laws.proofs.Grid.{row_of, col-of}
 use Rattle.laws.proofs.Planes.{is-plane, place-lt}
 use Rattle.dilate.specs.Dilate.{around, dilated}
 use Rattle.dilate.specs.Scratch.{line_of, Apart, LinesDilated}
-use Rattle.dilate.proofs.Lines.{around-same}
+use Rattle.dilate.proofs.LinesDilated.{around-same}
 
 along : (x y w : ℕ) → 0 + x * 1 + y * w ≡ y * w + x
 along x y w = omega arith

@@ -2,7 +2,8 @@
 pub mod Window
 pub mod Samples
 pub mod Cells
-pub mod Steps
+pub mod Blocks
+pub mod BlockStep
 pub mod Stored
-pub mod Lines
+pub mod LinesDilated
 pub mod Frames

@@ -43,9 +43,3 @@ stored_on s first step (suc n) f i one b inside =
     go (no k) ih =
         let e : i ≡ n = omega (arith, k) in
         rw e (get_or-set_same (stored s first step n f) (first + n * step) (f n) 0 (omega (arith, length-stored s first step n f, inside n (omega arith))))
-
--- the same bytes, given in another way
-pub stored_same : (s : List ℕ) (first step n : ℕ) (f g : ℕ → ℕ) → ((i : ℕ) → i < n → f i ≡ g i) → stored s first step n f ≡ stored s first step n g
-unfolding stored
-stored_same s first step zero f g e = refl
-stored_same s first step (suc n) f g e = rw (stored_same s first step n f g (λ i h. e i (omega arith)), e n (omega arith))

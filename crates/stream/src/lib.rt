@@ -113,6 +113,7 @@ pub fn components_shown(c: MaybeComponents) -> Components
 }
 
 // Refusals 12 to 14, by the lengths of the lent memories, for a frame whose sides are at most 4,096.
+#[tactic(auto, unfolding(crate::specs::Stream::memory_refusal))]
 pub fn memory_refusal(
     store: usize,
     scratch: usize,

@@ -1,31 +1,35 @@
-use mathlib.Core.Path.{refl, ap}
-use Prim.Native.Nat.{ℕ, ◌+◌, ◌-◌, ◌*◌}
+use mathlib.Core.Path.{◌∙◌}
 use native.Mathlib.Omega.{arith}
-use lib.ListN.{take, drop}
-use Rattle.laws.proofs.Planes.{width}
-use Rattle.arch_hsv.specs.Rows.{row_stored}
-use Rattle.arch_hsv.proofs.Pixels.{bounded, block-joined}
+use Rattle.std.proofs.Common.{rules}
+use Rattle.arch_hsv.proofs.Pixels.{bounded, row_none, row-block, block-pixels, row_all}
 use Rattle.arch_hsv.proofs.bgr_to_hsv_row.Goals as goal
 
-pub loop-x-init : goal.loop-x-init
-unfolding row_stored
-loop-x-init c = (omega arith, (refl, (refl, (refl, (refl, refl)))))
+pub loop-part-init : goal.loop-part-init
+loop-part-init c = (search rules, tt, search rules, row_none _ _ _ _ (search rules))
 
-pub finish-requires-clause-by_index : goal.finish-requires-clause-by_index
-finish-requires-clause-by_index c =
+pub store-requires : goal.store-requires
+store-requires c =
     let e = c.measure.ensures in
-    let p = 3 * c.loop-x.x in
-    let m = c.lesser_usize-m.result in
-    bounded (take (p + 3 * m - p) (drop p c.args.row.now)) e.first_are e.first_are_2 e.first_are_3
+    let s = c.in-Some.ensures.steps in
+    let i = c.loop-part.invariant in
+    let b = block-pixels c.in-Some.part.now _ i.3 c.requires.whole s.1.0 (rw i.2 at s.1.1) in
+    record {
+      m_bound = omega arith;
+      out_len = i.3.size ∙ c.requires.out_len;
+      inside = omega (arith, b.0, b.1, i.3.place);
+      by_index = bounded c.in-Some.part.now e.v e.d e.k;
+    }
 
-pub loop-x-preserved : goal.loop-x-preserved
-loop-x-preserved c =
+pub loop-part-preserved : goal.loop-part-preserved
+loop-part-preserved c =
     let e = c.measure.ensures in
-    let x = c.loop-x.x in
-    let m = c.lesser_usize-m.result in
-    let i = c.loop-x.invariant.1.1.1.1 in
-    let part = ap (λ (k : ℕ). take k (drop (3 * x) c.args.row.now)) (width (3 * x) (3 * m)) in
-    let stored = block-joined _ _ _ _ _ _ _ _ _ _ _ _ part i.1 e.first_are e.first_are_2 e.first_are_3 c.finish.ensures in (
-      omega (arith, c.lesser_usize-m.ensures, c.loop-x-test.true),
-      (e.first_are.size, (e.first_are_2.size, (e.first_are_3.size, (omega arith, stored)))),
+    let s = c.in-Some.ensures.steps in
+    let i = c.loop-part.invariant in (
+      search rules,
+      tt,
+      s.0 ∙ i.2,
+      row-block c.in-Some.part.now _ _ _ _ _ i.3 c.requires.whole s.1.0 (rw i.2 at s.1.1) e.v e.d e.k c.store.auto.out c.store.ensures,
     )
+
+pub returns : goal.returns
+returns c = row_all c.loop-part.invariant.3 c.in-None.ensures.steps.1.0

@@ -1,20 +1,18 @@
-use Rattle.std.proofs.Common.{◌≡◌, ℕ, ◌+◌, ◌*◌, ◌/◌, ◌<◌, arith}
-use native.Mathlib.Nat.{div-lt_iff_lt-mul}
+-- `canny_marks::auto_kernel_size` meets its contract. Assumes nothing.
+use Rattle.std.proofs.Common.{refl}
 use borrow.Author.Tests.{eq-eqb, ne_eqb}
-use Rattle.canny_marks.specs.Kernel.{spread, auto_kernel_size}
-use Rattle.canny_marks.proofs.Greatest.{Passes, spread_at}
+use Rattle.canny_marks.specs.Kernel.{auto_kernel_size}
+use Rattle.canny_marks.proofs.Greatest.{spread_root}
 use Rattle.canny_marks.proofs.auto_kernel_size.Goals as goal
-
--- d where the loop ends, whose test says so with a division
-last : (n d r : ℕ) → r ≡ 96 + 192 * d → Passes n d → n / r < r → d ≡ spread n
-last n d r e p h = spread_at n d r e p ((div-lt_iff_lt-mul {k = r} (omega arith)).0 h)
 
 pub returns-then-k-eq0 : goal.returns-then-k-eq0
 unfolding auto_kernel_size
 returns-then-k-eq0 c =
-    rw (← last _ _ _ c.loop-reach.invariant.0 c.loop-reach.invariant.1.0 c.loop-reach-test.false, eq-eqb _ _ c.if-k-eq0.true)
+    let d = spread_root _ _ _ c.isqrt.ensures.square_le c.isqrt.ensures.next_square_gt refl in
+    rw (← c.from.ensures, ← c.from-2.ensures, ← d, eq-eqb _ _ c.if-k-eq0.true)
 
-pub returns : goal.returns
+pub returns-else-k-eq0 : goal.returns-else-k-eq0
 unfolding auto_kernel_size
-returns c =
-    rw (← last _ _ _ c.loop-reach.invariant.0 c.loop-reach.invariant.1.0 c.loop-reach-test.false, ne_eqb _ _ c.if-k-eq0.false)
+returns-else-k-eq0 c =
+    let d = spread_root _ _ _ c.isqrt.ensures.square_le c.isqrt.ensures.next_square_gt refl in
+    rw (← c.from.ensures, ← c.from-2.ensures, ← d, ne_eqb _ _ c.if-k-eq0.false)

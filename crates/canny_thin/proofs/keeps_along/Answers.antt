@@ -6,4 +6,4 @@ pub returns : goal.returns
 returns c =
     let a = c.args in
     along-is a.mag.now a.w a.dir a.i _ _ _ _ _ _ _ c.keeps_by-across.ensures c.keeps_by-fall.ensures c.keeps_by-down.ensures
-    c.keeps_by-rise.ensures c.pick_bool.ensures c.pick_bool-2.ensures c.pick_bool-3.ensures
+    c.keeps_by-rise.ensures c.pick.ensures c.pick-2.ensures c.pick-3.ensures

@@ -1,25 +1,35 @@
-use mathlib.Core.Path.{◌≡◌, ap, ◌∙◌, refl}
-use Prim.Native.Nat.{ℕ, ◌+◌, ◌%◌, ◌<◌, ◌-◌}
-use native.Mathlib.Omega.{arith}
-use Rattle.dilate.specs.Scratch.{lane, suffix}
-use Rattle.dilate.proofs.Cells.{CellsDown, down-start, down-more, wrote-same}
-use Rattle.dilate.proofs.Steps.{suffix-cell, suffix_last, prev-is}
+use Rattle.std.proofs.Common.{◌≡◌, ℕ, ◌+◌, ◌-◌, ◌≤◌, ◌<◌, max, refl, ap, sym, ◌∙◌, length, get_or, arith}
+use Rattle.std.proofs.lemmas.List.{get_or-replicate}
+use Rattle.laws.specs.Lists.{max_in}
+use Rattle.laws.proofs.Max.{max_none, max-first}
+use Rattle.dilate.specs.Scratch.{lane}
+use Rattle.dilate.proofs.Cells.{cells-set, lane-set_other}
 use Rattle.dilate.proofs.suffixes.Goals as goal
 
 pub loop-i-init : goal.loop-i-init
-loop-i-init c =
-    let a = c.args in
-    let bpos : 0 < a.b = omega arith in
-    (omega arith, (refl, down-start a.count 16 _ a.s.now (a.count - 1) (omega arith) (λ j h. suffix_last (lane a.s.now j) a.b bpos a.count (a.count - 1) (omega arith))))
+loop-i-init c = record {
+  done = λ u j h k b. absurd (omega arith);
+  rest = λ u j h. refl;
+  largest = λ j b. get_or-replicate 16 j 0 0 b ∙ sym (max_none (length c.args.s.now) (length c.args.s.now) (lane c.args.s.now j) (omega arith));
+}
 
 pub loop-i-preserved : goal.loop-i-preserved
 loop-i-preserved c =
-    let a = c.args in
-    let l = c.loop-i.invariant.1 in
+    let n = length c.args.s.now in
+    let i = c.loop-i.i in
     let k = c.loop-i.i - 1 in
-    let up : c.loop-i.i ≡ k + 1 = omega arith in
-    let bpos : 0 < a.b = omega arith in
-    let r : c.loop-i.t ≡ (k + 1) % a.b = l.0 ∙ ap (λ (n : ℕ). n % a.b) up in
-    let D : CellsDown a.count 16 (λ u j. suffix (lane a.s.now j) a.b a.count u) a.s.now (k + 1) c.loop-i.s = rw up at l.1 in
-    let w = wrote-same (λ j. suffix (lane a.s.now j) a.b a.count k) c.suffix_cell.ensures (λ j h. suffix-cell a.s.now c.loop-i.s a.b a.count k c.loop-i.t j bpos D r (omega arith) h) in
-    (omega arith, (c.prev-t.ensures ∙ prev-is k a.b c.loop-i.t bpos r, down-more k _ l.1 up (omega arith) w))
+    let up : k + 1 ≡ i = omega arith in
+    let g = λ (j : ℕ). lane c.args.s.now j in
+    let here : (j : ℕ) → j < 16 → get_or c.raise.new.cell j 0 ≡ max_in k n (g j) =
+    λ j b.
+    c.raise.ensures j b
+    ∙ ap (λ (m : ℕ). max m (lane c.loop-i.s j k)) (c.loop-i.invariant.largest j b ∙ ap (λ (m : ℕ). max_in m n (g j)) (sym up))
+    ∙ ap (λ (m : ℕ). max (max_in (k + 1) n (g j)) m) (c.loop-i.invariant.rest k j (omega arith))
+    ∙ sym (max-first k n (g j) (omega arith)) in
+    record {
+      done = λ u j h p b.
+          cells-set (λ v. (i ≤ v) × (v < n)) c.loop-i.s k c.raise.new.cell (λ v j. max_in v n (g j)) (omega arith)
+          (λ v j q d. c.loop-i.invariant.done v j q.0 q.1 d) here u j (λ e. (omega (arith, e), p)) b;
+      rest = λ u j h. lane-set_other c.loop-i.s k c.raise.new.cell j u (λ e. omega arith) ∙ c.loop-i.invariant.rest u j (omega arith);
+      largest = here;
+    }

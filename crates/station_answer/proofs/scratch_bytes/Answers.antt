@@ -8,4 +8,4 @@ returns-then-width-height c = rw c.if-width-height.true
 
 pub returns : goal.returns
 unfolding scratch_bytes
-returns c = rw (c.if-width-height.false, c.larger_u64.ensures)
+returns c = rw (c.if-width-height.false, c.max.ensures)
