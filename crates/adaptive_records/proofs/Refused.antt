@@ -8,9 +8,8 @@ use borrow.Author.Tests.{ne_eqb}
 use Rattle.timestamp.specs.declared.Timestamp.{Timestamp}
 use Rattle.scoring.specs.Planes.{Planes}
 use Rattle.adaptive.specs.declared.Detector.{Detector}
-use Rattle.adaptive.specs.declared.Answer.{Answer}
 use Rattle.adaptive.specs.Options.{picture_options}
-use Rattle.adaptive.specs.State.{bad_state, refused_answer}
+use Rattle.adaptive.specs.State.{Answer, bad_state, refused_answer}
 use Rattle.frame_call.specs.Call.{Memory, Call, luma, bgr, hsv, Outcome, call_refusal, pictured, answered_by}
 use Rattle.adaptive.specs.Step.{stepped, called}
 use Rattle.frame_records.specs.declared.LumaFrame.{LumaFrame}

@@ -7,16 +7,14 @@ use native.Mathlib.Omega.{arith}
 use lib.Dec.{eqb}
 use Rattle.timestamp.specs.declared.Timestamp.{Timestamp}
 use Rattle.adaptive.specs.declared.Detector.{Detector}
-use Rattle.adaptive.specs.declared.Answer.{Answer}
 use Rattle.adaptive.specs.Options.{picture_options}
-use Rattle.adaptive.specs.State.{bad_state, refused_answer, cleared_answer}
+use Rattle.adaptive.specs.State.{Answer, bad_state, refused_answer, cleared_answer}
 use Rattle.adaptive.specs.Step.{stepped, called}
 use Rattle.adaptive.proofs.Recomputed.{recomputed}
 use Rattle.scoring.specs.Planes.{Planes}
-use Rattle.frame_call.specs.declared.Picture.{Picture}
-use Rattle.frame_call.specs.Call.{pictured, answered_by}
-use Rattle.frame_call.specs.Call.{Memory, Call, luma, bgr, hsv, clear}
-use Rattle.frame_call.specs.Call.{Called}
+use Rattle.frame_call.specs.Call.{PictureAnswer, pictured, answered_by}
+use Rattle.frame_call.specs.Call.{PictureAnswer, Memory, Call, luma, bgr, hsv, clear}
+use Rattle.frame_call.specs.Call.{PictureAnswer, Called}
 use Rattle.adaptive_words.specs.Record.{adaptive_words, adaptive_of}
 use Rattle.station_answer.specs.Answer.{answer_words, ReadAs}
 use Rattle.station_answer.specs.Promises.{FrameContract, ClearContract}
@@ -25,7 +23,7 @@ use Rattle.adaptive_station.specs.Station.{adaptive_layout, adaptive_call}
 
 -- ---- a refused call gives the detector back
 
-picture-keeps : (d : Detector) (ts : Timestamp) (p : Picture) → 0 < (answered_by (stepped d ts) (refused_answer d) p).number
+picture-keeps : (d : Detector) (ts : Timestamp) (p : PictureAnswer) → 0 < (answered_by (stepped d ts) (refused_answer d) p).number
     → (answered_by (stepped d ts) (refused_answer d) p).detector ≡ d
 unfolding stepped
 picture-keeps d ts p some = by_zero (eqb p.number 0) refl some

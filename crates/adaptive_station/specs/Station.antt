@@ -1,12 +1,11 @@
 -- The adaptive detector as the station calls it: its record in words, the results of its calls, and what settings return.
 use Rattle.adaptive.specs.declared.Detector.{Detector}
-use Rattle.adaptive.specs.declared.Answer.{Answer}
-use Rattle.adaptive.specs.declared.Settled.{Settled}
 use Rattle.frame_call.specs.Call.{Call}
 use Rattle.frame_call.specs.Call.{Outcome}
 use Rattle.adaptive.specs.Step.{called}
 use Rattle.adaptive_words.specs.Record.{adaptive_words, adaptive_of}
 use Rattle.station_answer.specs.Promises.{Layout, Brought, Started}
+use Rattle.adaptive.specs.State.{Settled, Answer}
 
 -- the record of the adaptive detector in words, and its weights
 abbrev pub adaptive_layout : Layout Detector

@@ -1,10 +1,9 @@
 -- The settings of a list of content calls, and the state that each call is handed (compare/README.md, "Lists of content calls"): a part of the
 -- comparison with the Rust (RULES 14.3). r[k] is byte k of the record, which for settings is record 0 and for a call its own.
-use Rattle.std.specs.Prelude.{true, cond, List, ℕ, ◌%◌, eqb}
+use Rattle.std.specs.Prelude.{true, cond, List, ℕ, ◌%◌, eqb, None}
 use Rattle.std.specs.Float.{nan, binary64}
 use Rattle.std.specs.Float.Ieee.{div}
 use Rattle.laws.specs.Floats.{float}
-use Rattle.timestamp.specs.declared.MaybeTimestamp.TheVariants.{None}
 use Rattle.filter.specs.declared.Filter.{Filter}
 use Rattle.filter.specs.declared.FilterMode.{FilterMode}
 use Rattle.filter.specs.declared.FilterMode.TheVariants.{Suppress, Merge}

@@ -6,7 +6,7 @@ ghost use Rattle.compare_content_lists.specs.State.{mode_of, settings_of, trigge
 use compare_lists::input;
 use content::{Answer, Detector, Options};
 use filter::{Filter, FilterMode};
-use timestamp::MaybeTimestamp;
+use timestamp::Timestamp;
 
 #[tactic(auto, unfolding(crate::specs::State::mode_of))]
 fn filter_mode(b: u32) -> FilterMode
@@ -44,7 +44,7 @@ fn triggered(f: Filter) -> Filter
         last_above: last,
         merge_enabled: f.merge_enabled,
         merge_triggered: true,
-        merge_start: MaybeTimestamp::None,
+        merge_start: None,
     }
 }
 

@@ -15,7 +15,7 @@ ghost use Rattle.timestamp.specs.Stamps.{duration_since, saturating_sub};
 ghost use Rattle.compare_exports.specs.Guard.{number, after, difference_of, packed24, micros_of, earlier_of};
 ghost use Rattle.compare_lists.specs.Wrote.{Wrote};
 
-use timestamp::{Since, Timestamp};
+use timestamp::Timestamp;
 
 // The check of a luma frame.
 #[unsafe(no_mangle)]
@@ -232,8 +232,8 @@ pub extern "C" fn mw_duration_since(ts: i64, earlier: i64) -> u64
     ensures { result ≡ micros_of (duration_since (record { micros = ts }) (record { micros = earlier })) }
 {
     match timestamp::duration_since(Timestamp { micros: ts }, Timestamp { micros: earlier }) {
-        Since::Earlier => 0,
-        Since::Micros(n) => n,
+        None => 0,
+        Some(n) => n,
     }
 }
 
@@ -243,8 +243,8 @@ pub extern "C" fn mw_is_earlier(ts: i64, earlier: i64) -> u32
     ensures { result ≡ earlier_of (duration_since (record { micros = ts }) (record { micros = earlier })) }
 {
     match timestamp::duration_since(Timestamp { micros: ts }, Timestamp { micros: earlier }) {
-        Since::Earlier => 1,
-        Since::Micros(_) => 0,
+        None => 1,
+        Some(_) => 0,
     }
 }
 

@@ -3,7 +3,7 @@ ghost use Rattle.std.specs.Prelude.{◌≡◌, ◌<◌, get_or};
 ghost use Rattle.std.specs.Float.{nan};
 ghost use Rattle.compare_lists.specs.Records.{byte_of, threshold_of, weight_list, weight_of, weights_of, kernel_by, kernel_of, minimum_of, initial_cut_of, side_of, first_size, next_size, turned_to, next_clock, stamp_of, is_foreign};
 
-use score::{Components, KernelSize};
+use score::Components;
 use timestamp::Timestamp;
 
 fn wide(b: u8) -> u32
@@ -101,23 +101,23 @@ pub fn weights(script: &[u8]) -> Components
     )
 }
 
-fn kernel_size(kind: u32, b: u32) -> KernelSize
+fn kernel_size(kind: u32, b: u32) -> Option<u32>
     requires { b < 256 }
     ensures { result ≡ kernel_by kind b }
 {
     if kind <= 3 {
-        return KernelSize::Auto;
+        return None;
     }
     if kind == 4 {
-        return KernelSize::Set(4294967295);
+        return Some(4294967295);
     }
     if kind == 5 {
-        return KernelSize::Set(b);
+        return Some(b);
     }
-    KernelSize::Set(2 * (b % 32) + 1)
+    Some(2 * (b % 32) + 1)
 }
 
-pub fn kernel(script: &[u8]) -> KernelSize
+pub fn kernel(script: &[u8]) -> Option<u32>
     ensures { result ≡ kernel_of script.now }
 {
     kernel_size(byte(script, 0, 8) % 8, byte(script, 0, 9))

@@ -4,9 +4,9 @@ ghost use Rattle.compare_lists.specs.Records.{raised_of};
 ghost use Rattle.compare_lists.specs.Wrote.{Wrote};
 
 use crate::memory;
-use score::{Components, MaybeComponents, MaybeScore};
+use score::Components;
 use stream::Sums;
-use timestamp::{MaybeTimestamp, Since, Timestamp};
+use timestamp::Timestamp;
 
 // One byte at `at`; returns the next place.
 fn put(out: &mut [u8], at: usize, b: u8) -> usize
@@ -73,18 +73,18 @@ fn raised(t: Timestamp) -> u64
             micros: -9223372036854775808,
         },
     ) {
-        Since::Earlier => 0,
-        Since::Micros(n) => n,
+        None => 0,
+        Some(n) => n,
     }
 }
 
 // 0, or 1 and the stamp.
-pub fn put_cut(out: &mut [u8], at: usize, cut: MaybeTimestamp) -> usize
+pub fn put_cut(out: &mut [u8], at: usize, cut: Option<Timestamp>) -> usize
     ensures { Wrote out.old out.new at result }
 {
     match cut {
-        MaybeTimestamp::None => put(out, at, 0),
-        MaybeTimestamp::At(t) => {
+        None => put(out, at, 0),
+        Some(t) => {
             let next = put(out, at, 1);
             put_long(out, next, raised(t))
         }
@@ -92,12 +92,12 @@ pub fn put_cut(out: &mut [u8], at: usize, cut: MaybeTimestamp) -> usize
 }
 
 // 0, or 1 and the score.
-pub fn put_score(out: &mut [u8], at: usize, score: MaybeScore) -> usize
+pub fn put_score(out: &mut [u8], at: usize, score: Option<f64>) -> usize
     ensures { Wrote out.old out.new at result }
 {
     match score {
-        MaybeScore::None => put(out, at, 0),
-        MaybeScore::Some(x) => {
+        None => put(out, at, 0),
+        Some(x) => {
             let next = put(out, at, 1);
             put_double(out, next, x)
         }
@@ -105,12 +105,12 @@ pub fn put_score(out: &mut [u8], at: usize, score: MaybeScore) -> usize
 }
 
 // 0, or 1 and the components.
-fn put_maybe_components(out: &mut [u8], at: usize, last: MaybeComponents) -> usize
+fn put_maybe_components(out: &mut [u8], at: usize, last: Option<Components>) -> usize
     ensures { Wrote out.old out.new at result }
 {
     match last {
-        MaybeComponents::None => put(out, at, 0),
-        MaybeComponents::Some(c) => {
+        None => put(out, at, 0),
+        Some(c) => {
             let next = put(out, at, 1);
             put_components(out, next, c)
         }
@@ -143,8 +143,8 @@ pub fn put_answer(
     out: &mut [u8],
     start: usize,
     number: u32,
-    cut: MaybeTimestamp,
-    score: MaybeScore,
+    cut: Option<Timestamp>,
+    score: Option<f64>,
     components: Components,
     sums: Sums,
 ) -> usize
@@ -158,7 +158,12 @@ pub fn put_answer(
 }
 
 // What the readers of both detectors show.
-pub fn put_last(out: &mut [u8], at: usize, score: MaybeScore, components: MaybeComponents) -> usize
+pub fn put_last(
+    out: &mut [u8],
+    at: usize,
+    score: Option<f64>,
+    components: Option<Components>,
+) -> usize
     ensures { Wrote out.old out.new at result }
 {
     let next = put_score(out, at, score);

@@ -9,9 +9,8 @@ use Rattle.frame_call.specs.Call.{Memory, Call, Called}
 use Rattle.frame_call.specs.Earlier.{pixels_of}
 use Rattle.frame_call.proofs.Sums.{none_from, call_from, no-pixels-no-sums, edges-off}
 use Rattle.content.specs.declared.Detector.{Detector}
-use Rattle.content.specs.declared.Answer.{Answer}
 use Rattle.content.specs.Options.{picture_options}
-use Rattle.content.specs.State.{bad_state, refused_answer, cleared_answer}
+use Rattle.content.specs.State.{Answer, bad_state, refused_answer, cleared_answer}
 use Rattle.content.specs.Step.{stepped, called}
 
 -- an answer's components and score are those that its sums give, under the detector's weights

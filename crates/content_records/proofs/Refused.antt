@@ -8,9 +8,8 @@ use borrow.Author.Tests.{ne_eqb}
 use Rattle.timestamp.specs.declared.Timestamp.{Timestamp}
 use Rattle.scoring.specs.Planes.{Planes}
 use Rattle.content.specs.declared.Detector.{Detector}
-use Rattle.content.specs.declared.Answer.{Answer}
 use Rattle.content.specs.Options.{picture_options}
-use Rattle.content.specs.State.{bad_state, refused_answer}
+use Rattle.content.specs.State.{Answer, bad_state, refused_answer}
 use Rattle.frame_call.specs.Call.{Memory, Call, luma, bgr, hsv, Outcome, call_refusal, pictured, answered_by}
 use Rattle.content.specs.Step.{stepped, called}
 use Rattle.frame_records.specs.declared.LumaFrame.{LumaFrame}

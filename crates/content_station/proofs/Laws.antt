@@ -8,18 +8,15 @@ use borrow.Author.Tests.{eqb-true, eq-eqb, ne_eqb, lt-ltb, le-ltb}
 use lib.Dec.{eqb}
 use Rattle.timestamp.specs.declared.Timestamp.{Timestamp}
 use Rattle.content.specs.declared.Detector.{Detector}
-use Rattle.content.specs.declared.Answer.{Answer}
 use Rattle.content.specs.declared.Options.{Options}
-use Rattle.content.specs.declared.Settled.{Settled}
 use Rattle.content.specs.Options.{defaults, picture_options, options_refusal}
-use Rattle.content.specs.State.{fresh, bad_state, settled, refused_answer, cleared_answer}
+use Rattle.content.specs.State.{Settled, Answer, fresh, bad_state, settled, refused_answer, cleared_answer}
 use Rattle.content.specs.Step.{stepped, called}
 use Rattle.content.proofs.Recomputed.{recomputed}
 use Rattle.scoring.specs.Planes.{Planes}
-use Rattle.frame_call.specs.declared.Picture.{Picture}
-use Rattle.frame_call.specs.Call.{pictured, answered_by}
-use Rattle.frame_call.specs.Call.{Memory, Call, luma, bgr, hsv, clear}
-use Rattle.frame_call.specs.Call.{Called}
+use Rattle.frame_call.specs.Call.{PictureAnswer, pictured, answered_by}
+use Rattle.frame_call.specs.Call.{PictureAnswer, Memory, Call, luma, bgr, hsv, clear}
+use Rattle.frame_call.specs.Call.{PictureAnswer, Called}
 use Rattle.content_words.specs.Record.{content_words, content_of}
 use Rattle.station_answer.specs.Answer.{answer_words, ReadAs}
 use Rattle.station_answer.specs.Promises.{FrameContract, ClearContract}
@@ -28,7 +25,7 @@ use Rattle.content_station.specs.Station.{content_layout, content_call, settled_
 
 -- ---- a refused call gives the detector back
 
-picture-keeps : (d : Detector) (ts : Timestamp) (p : Picture) → 0 < (answered_by (stepped d ts) (refused_answer d) p).number
+picture-keeps : (d : Detector) (ts : Timestamp) (p : PictureAnswer) → 0 < (answered_by (stepped d ts) (refused_answer d) p).number
     → (answered_by (stepped d ts) (refused_answer d) p).detector ≡ d
 unfolding stepped
 picture-keeps d ts p some = by_zero (eqb p.number 0) refl some

@@ -7,8 +7,7 @@ use borrow.Author.Tests.{eqb-true}
 use lib.Dec.{eqb}
 use Rattle.timestamp.specs.declared.Timestamp.{Timestamp}
 use Rattle.scoring.specs.Planes.{Planes}
-use Rattle.frame_call.specs.declared.Picture.{Picture}
-use Rattle.frame_call.specs.Call.{Memory, Call, luma, bgr, hsv, clear, call_refusal, pictured, answered_by}
+use Rattle.frame_call.specs.Call.{PictureAnswer, Memory, Call, luma, bgr, hsv, clear, call_refusal, pictured, answered_by}
 use Rattle.content.specs.declared.Detector.{Detector}
 use Rattle.content.specs.Options.{picture_options}
 use Rattle.content.specs.State.{bad_state, refused_answer, cleared_answer}
@@ -19,7 +18,7 @@ use Rattle.station_answer.specs.Promises.{FrameContract, ClearContract}
 use Rattle.content_station.specs.Station.{content_layout, content_call}
 
 -- the number of an answer to a frame, and the number of a frame at a bad state
-answer-number : (d : Detector) (ts : Timestamp) (p : Picture) → (answered_by (stepped d ts) (refused_answer d) p).number ≡ p.number
+answer-number : (d : Detector) (ts : Timestamp) (p : PictureAnswer) → (answered_by (stepped d ts) (refused_answer d) p).number ≡ p.number
 unfolding stepped
 answer-number d ts p = by_zero (eqb p.number 0) refl
   where

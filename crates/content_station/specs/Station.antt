@@ -1,12 +1,10 @@
 -- The content detector as the station calls it: its record in words, the results of its calls, and settings by numbers.
 use Rattle.std.specs.Prelude.{cond, not, [], ◌∷◌, ℕ, eqb}
-use Rattle.frame.specs.Refusal.{first_that}
+use Rattle.refusal.specs.Refusal.{first_that}
 use Rattle.content.specs.declared.Detector.{Detector}
-use Rattle.content.specs.declared.Answer.{Answer}
 use Rattle.content.specs.declared.Options.{Options}
-use Rattle.content.specs.declared.Settled.{Settled}
 use Rattle.content.specs.Options.{defaults, options_refusal}
-use Rattle.content.specs.State.{fresh}
+use Rattle.content.specs.State.{Settled, Answer, fresh}
 use Rattle.frame_call.specs.Call.{Call, Outcome}
 use Rattle.content.specs.Step.{called}
 use Rattle.content_words.specs.Record.{content_words, content_of}

@@ -14,15 +14,14 @@ use Rattle.stream.specs.declared.Stream.{Stream}
 use Rattle.stream.specs.Stream.{next_stream}
 use Rattle.laws.specs.Lists.{All, leave_out}
 use Rattle.frame_call.specs.declared.PictureOptions.{PictureOptions}
-use Rattle.frame_call.specs.declared.Picture.{Picture}
-use Rattle.frame_call.specs.Call.{Memory, Call, luma, bgr, hsv, clear, frame_number, Outcome, accepted, pictured, answered_by, outcome_of}
+use Rattle.frame_call.specs.Call.{PictureAnswer, Memory, Call, luma, bgr, hsv, clear, frame_number, Outcome, accepted, pictured, answered_by, outcome_of}
 use Rattle.frame_call.specs.Run.{own_number, is_refused, MadeCall, run_from, RunClaim}
 use Rattle.frame_call.proofs.Refusals.{passed}
 use Rattle.frame_call.proofs.Numbers.{own_below}
 
 -- ---- the answer to a frame, accepted and refused
 
-module _ {A : Type 0} (s : Stream) (o : PictureOptions) (bad : Bool) (stepped : Picture → A) (refused : ℕ → A) (u w h : ℕ) (p : Planes) (m : Memory) where
+module _ {A : Type 0} (s : Stream) (o : PictureOptions) (bad : Bool) (stepped : PictureAnswer → A) (refused : ℕ → A) (u w h : ℕ) (p : Planes) (m : Memory) where
   pub if-accepted : eqb (frame_number bad u w h m) 0 ≡ true → answered_by stepped refused (pictured s o bad u w h p m).answer ≡ stepped (accepted s o w h p m.store).answer
   unfolding pictured accepted
   if-accepted e = rw e
@@ -41,15 +40,15 @@ small {w = w} {h = h} a = simp (le-ltb 4096 w a.wide, le-ltb 4096 h a.high)
 -- ---- a detector
 
 module _ {D A : Type 0} (stream_of : D → Stream) (settings : D → PictureOptions) (bad : D → Bool)
-    (stepped : D → Timestamp → Picture → A) (refused : D → ℕ → A) (cleared : D → A) (number : A → ℕ) (state_of : A → D) where
+    (stepped : D → Timestamp → PictureAnswer → A) (refused : D → ℕ → A) (cleared : D → A) (number : A → ℕ) (state_of : A → D) where
   abbrev called : D → Call → Outcome A
   called d c = outcome_of (stream_of d) (settings d) (bad d) (stepped d) (refused d) (cleared d) c
 
   -- Good is what holds of every state of a run; this is what a detector shows of it, and of its answers
   pub record DetectorLaws (Good : D → Type 0) : Type 0 where
     pub not-bad : (d : D) → Good d → bad d ≡ false
-    pub step-number : (d : D) (ts : Timestamp) (p : Picture) → number (stepped d ts p) ≡ 0
-    pub step_stays : (d : D) (ts : Timestamp) (p : Picture) → too_large p.stream.width p.stream.height ≡ false → Good d → Good (state_of (stepped d ts p))
+    pub step-number : (d : D) (ts : Timestamp) (p : PictureAnswer) → number (stepped d ts p) ≡ 0
+    pub step_stays : (d : D) (ts : Timestamp) (p : PictureAnswer) → too_large p.stream.width p.stream.height ≡ false → Good d → Good (state_of (stepped d ts p))
     pub refused-number : (d : D) (n : ℕ) → number (refused d n) ≡ n
     pub refused-state : (d : D) (n : ℕ) → state_of (refused d n) ≡ d
     pub clear-number : (d : D) → Good d → number (cleared d) ≡ 0

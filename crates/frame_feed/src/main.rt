@@ -16,7 +16,7 @@ use frame_records::{HsvFrame, LumaFrame, RgbFrame};
 use score::Components;
 use std::io;
 use stream::Sums;
-use timestamp::{MaybeTimestamp, Since, Timestamp};
+use timestamp::Timestamp;
 
 // The number of a frame by its constructor, and the answer of the content detector to it.
 #[derive(Clone, Copy)]
@@ -180,8 +180,8 @@ fn show_sums(rt: &impl Print, s: Sums) -> io::Result<()> {
 fn show_cut(rt: &impl Print, ts: Timestamp) -> io::Result<()> {
     let zero = Timestamp { micros: 0 };
     match timestamp::duration_since(ts, zero) {
-        Since::Earlier => Ok(()),
-        Since::Micros(n) => println!(rt; "cut {n}"),
+        None => Ok(()),
+        Some(n) => println!(rt; "cut {n}"),
     }
 }
 
@@ -192,7 +192,7 @@ fn show(
     number: u32,
     answer: u32,
     sums: Sums,
-    cut: MaybeTimestamp,
+    cut: Option<Timestamp>,
 ) -> io::Result<()> {
     rt.write_all(name)?;
     show_number(rt, number)?;
@@ -200,8 +200,8 @@ fn show(
     show_sums(rt, sums)?;
     println!(rt;)?;
     match cut {
-        MaybeTimestamp::None => Ok(()),
-        MaybeTimestamp::At(ts) => show_cut(rt, ts),
+        None => Ok(()),
+        Some(ts) => show_cut(rt, ts),
     }
 }
 

@@ -5,7 +5,7 @@ ghost use Rattle.adaptive.specs.Options.{options as Options·options};
 ghost use Rattle.adaptive.specs.Options.{options_refusal};
 
 use adaptive::{Detector, Options};
-use score::{Components, MaybeScore};
+use score::Components;
 use std::io;
 use timestamp::Timestamp;
 
@@ -61,8 +61,8 @@ fn ratio(o: Options, luma: &[u8]) -> u64 {
     let d = frames(start, luma, &mut store, &mut scratch, &mut magnitudes);
     let last = adaptive::last_adaptive_ratio(d);
     match last {
-        MaybeScore::None => 257,
-        MaybeScore::Some(x) => whole(x),
+        None => 257,
+        Some(x) => whole(x),
     }
 }
 

@@ -9,9 +9,9 @@ ghost use Rattle.replay_filter.specs.Answers.{bits_of, cut_fed, score_fed, answe
 use content::{Answer, Detector, Options};
 use filter::FilterMode;
 use replay::Digest;
-use score::{Components, MaybeScore};
+use score::Components;
 use std::io;
-use timestamp::{MaybeTimestamp, Timestamp};
+use timestamp::Timestamp;
 
 // A list on its way: the generator's number, the place of the last stamp, the digest and the detector's state.
 #[derive(Clone, Copy)]
@@ -102,21 +102,21 @@ fn stamp_bits(t: Timestamp) -> u64
     bits(t.micros)
 }
 
-fn feed_cut(d: Digest, cut: MaybeTimestamp) -> Digest
+fn feed_cut(d: Digest, cut: Option<Timestamp>) -> Digest
     ensures { result ≡ cut_fed d cut }
 {
     match cut {
-        MaybeTimestamp::None => replay::step(d, 0),
-        MaybeTimestamp::At(t) => replay::long(replay::step(d, 1), stamp_bits(t)),
+        None => replay::step(d, 0),
+        Some(t) => replay::long(replay::step(d, 1), stamp_bits(t)),
     }
 }
 
-fn feed_score(d: Digest, score: MaybeScore) -> Digest
+fn feed_score(d: Digest, score: Option<f64>) -> Digest
     ensures { result ≡ score_fed d score }
 {
     match score {
-        MaybeScore::None => replay::step(d, 0),
-        MaybeScore::Some(value) => replay::double(replay::step(d, 1), value),
+        None => replay::step(d, 0),
+        Some(value) => replay::double(replay::step(d, 1), value),
     }
 }
 

@@ -12,7 +12,7 @@ use cut_list::{Changed, CutList};
 use input::Kind;
 use replay::Digest;
 use std::io;
-use timestamp::{MaybeTimestamp, Timestamp};
+use timestamp::Timestamp;
 
 // What an operation leaves: its number, the record, and the digest with number and answer.
 #[derive(Clone, Copy)]
@@ -31,10 +31,10 @@ fn changed(c: Changed, d: Digest) -> Done {
     }
 }
 
-fn feed_nearest(d: Digest, nearest: MaybeTimestamp) -> Digest {
+fn feed_nearest(d: Digest, nearest: Option<Timestamp>) -> Digest {
     match nearest {
-        MaybeTimestamp::None => replay::step(d, 0),
-        MaybeTimestamp::At(t) => replay::long(replay::step(d, 1), numbers::raised(t)),
+        None => replay::step(d, 0),
+        Some(t) => replay::long(replay::step(d, 1), numbers::raised(t)),
     }
 }
 

@@ -9,7 +9,6 @@ ghost use Rattle.arch_planes.specs.Difference.{sum_abs_diff};
 ghost use Rattle.stream.specs.Stream.{no_sums};
 ghost use Rattle.canny.specs.Edges.{edge_plane};
 
-use score::KernelSize;
 use stream::Sums;
 
 // The three planes of a luma frame, in `current`, which is 3 * w * h bytes long.
@@ -145,12 +144,12 @@ fn keep_edges(store: &mut [u8], scratch: &[u8], n: usize)
 }
 
 // k as set, or by the frame's size.
-pub fn kernel(kernel_size: KernelSize, width: u32, height: u32) -> u32
+pub fn kernel(kernel_size: Option<u32>, width: u32, height: u32) -> u32
     ensures { result ≡ kernel_of kernel_size width height }
 {
     match kernel_size {
-        KernelSize::Auto => canny_marks::auto_kernel_size(width, height),
-        KernelSize::Set(k) => k,
+        None => canny_marks::auto_kernel_size(width, height),
+        Some(k) => k,
     }
 }
 

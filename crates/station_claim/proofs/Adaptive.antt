@@ -1,5 +1,6 @@
 -- THE THEOREM for the adaptive detector: the spacing theorem, as `specs/Claim.antt` states it, of every list of calls that a station makes,
 -- from the words that a settings call wrote. It rests on the contracts of the station's calls and assumes nothing else.
+use Rattle.std.proofs.Common.{None, Option}
 use mathlib.Core.Path.{◌≡◌, refl, ap, subst, ◌∙◌}
 use mathlib.Core.Bool.{Bool, true, false, cond}
 use mathlib.Core.List.{List, [], ◌∷◌, map}
@@ -7,20 +8,16 @@ use Prim.Native.Nat.{ℕ, ◌<◌}
 use borrow.Author.Tests.{eqb-true}
 use lib.Dec.{eqb}
 use Rattle.timestamp.specs.declared.Timestamp.{Timestamp}
-use Rattle.timestamp.specs.declared.MaybeTimestamp.{MaybeTimestamp}
-use Rattle.timestamp.specs.declared.MaybeTimestamp.TheVariants.{None}
-use Rattle.frame_call.specs.declared.Picture.{Picture}
-use Rattle.frame_call.specs.Call.{Memory, pictured, answered_by}
+use Rattle.frame_call.specs.Call.{PictureAnswer, Memory, pictured, answered_by}
 use Rattle.scoring.specs.Planes.{Planes}
 use Rattle.frame_call.specs.Run.{own_number, MadeCall, run_from}
 use Rattle.laws.specs.Lists.{All}
 use Rattle.adaptive.specs.declared.Options.{Options}
 use Rattle.adaptive.specs.declared.Detector.{Detector}
-use Rattle.adaptive.specs.declared.Answer.{Answer}
 use Rattle.adaptive.specs.Options.{defaults, picture_options, options_refusal}
-use Rattle.adaptive.specs.State.{fresh, bad_state, settled, refused_answer, cleared_answer}
+use Rattle.adaptive.specs.State.{Answer, fresh, bad_state, settled, refused_answer, cleared_answer}
 use Rattle.adaptive.specs.Step.{stepped, called}
-use Rattle.frame_call.specs.Call.{Call, luma, bgr, hsv, clear}
+use Rattle.frame_call.specs.Call.{PictureAnswer, Call, luma, bgr, hsv, clear}
 use Rattle.adaptive_claim.specs.Claim.{from_clear_to_clear, AdaptiveClaim}
 use Rattle.adaptive_claim.proofs.Theorem.{adaptive-claim, with_answer, defaults-accepted}
 use Rattle.adaptive_words.specs.Record.{adaptive_of}
@@ -32,7 +29,7 @@ use Rattle.station_claim.proofs.Runs.{Heard, heard_from, heard_by, heard-is, eac
 
 -- ---- a call that is refused has no cut, nor has `clear`
 
-picture-none : (d : Detector) (ts : Timestamp) (p : Picture) → eqb (answered_by (stepped d ts) (refused_answer d) p).number 0 ≡ false
+picture-none : (d : Detector) (ts : Timestamp) (p : PictureAnswer) → eqb (answered_by (stepped d ts) (refused_answer d) p).number 0 ≡ false
     → (answered_by (stepped d ts) (refused_answer d) p).cut ≡ None
 unfolding stepped
 picture-none d ts p e = by_zero (eqb p.number 0) refl e
@@ -80,17 +77,17 @@ all_of P [] a = tt
 all_of P (m ∷ ms) a = (a.0, all_of P ms a.1)
 
 -- the cuts or none, from clear to clear
-abbrev parts : List Heard → List (List MaybeTimestamp)
+abbrev parts : List Heard → List (List (Option Timestamp))
 parts [] = [] ∷ []
 parts (h ∷ hs) = with_answer h.call h.cut (parts hs)
 
 parts-read : (ys : List StationCall) → read_from_clear_to_clear ys ≡ parts (map heard_from ys)
 parts-read [] = refl
-parts-read (y ∷ ys) = ap (λ (ps : List (List MaybeTimestamp)). with_answer y.call (cut_read y) ps) (parts-read ys)
+parts-read (y ∷ ys) = ap (λ (ps : List (List (Option Timestamp))). with_answer y.call (cut_read y) ps) (parts-read ys)
 
 parts-made : (ms : List (MadeCall Answer)) → parts (map heard_of ms) ≡ from_clear_to_clear ms
 parts-made [] = refl
-parts-made (m ∷ ms) = ap (λ (ps : List (List MaybeTimestamp)). with_answer m.call m.outcome.answer.cut ps) (parts-made ms)
+parts-made (m ∷ ms) = ap (λ (ps : List (List (Option Timestamp))). with_answer m.call m.outcome.answer.cut ps) (parts-made ms)
 
 module _ (o : Options) (ok : options_refusal o ≡ 0) (s : List ℕ) (ys : List StationCall) (start : adaptive_of s ≡ fresh o) (made : MadeFrom adaptive_layout adaptive_call s ys) where
   abbrev calls_made : List Call

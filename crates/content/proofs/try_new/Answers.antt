@@ -1,18 +1,15 @@
 -- `content::try_new` meets its contract: the options where they pass, and else the defaults.
 use borrow.Author.Tests.{ne_eqb}
-use mathlib.Core.Path.{◌≡◌, sym, ◌∙◌}
-use Rattle.content.specs.Options.{options_refusal}
+use native.Mathlib.Omega.{arith}
+use Rattle.refusal.specs.Refusal.{number_of}
+use Rattle.refusal.proofs.Numbers.{positive}
 use Rattle.content.specs.State.{settled}
 use Rattle.content.proofs.try_new.Goals as goal
 
-pub returns-then-number-eq0 : goal.returns-then-number-eq0
+pub returns-in-Ok : goal.returns-in-Ok
 unfolding settled
-returns-then-number-eq0 c =
-    let zero : options_refusal c.args.o ≡ 0 = sym c.options_refusal-number.ensures ∙ c.if-number-eq0.true in
-    rw (zero, c.fresh-d.ensures)
+returns-in-Ok c = rw (c.fresh.ensures, ← c.in-Ok.ensures)
 
-pub returns : goal.returns
+pub returns-in-Err : goal.returns-in-Err
 unfolding settled
-returns c =
-    let number = c.options_refusal-number.ensures in
-    rw (c.fresh-d-2.ensures, c.new.ensures, ← number, ne_eqb _ 0 c.if-number-eq0.false)
+returns-in-Err c = rw (c.fresh-in-Err.ensures, c.new.ensures, ← c.in-Err.ensures, ne_eqb (number_of c.in-Err.refusal) 0 (λ z. omega (arith, positive c.in-Err.refusal)))

@@ -1,9 +1,9 @@
 -- `content_frames::answer_to` meets its contract: an accepted frame's number is 0, in the step's answer as in the picture.
 use mathlib.Core.Path.{◌≡◌, sym, ap, ◌∙◌}
 use native.Mathlib.Omega.{arith}
-use Rattle.content.specs.declared.Answer.{Answer}
 use Rattle.content.specs.Step.{stepped}
 use Rattle.content_frames.proofs.answer_to.Goals as goal
+use Rattle.content.specs.State.{Answer}
 
 pub returns-clause-number_value : goal.returns-clause-number_value
 unfolding stepped

@@ -1,65 +1,37 @@
 -- `cuts::take_read` meets its contract: all the bytes that came are fed. Assumes nothing.
 use borrow.Author.Tests.{eq-eqb, ne_eqb}
-use mathlib.Core.Path.{◌≡◌, refl, sym, ◌∙◌}
-use mathlib.Core.Bool.{Bool, true, false}
+use mathlib.Core.Path.{◌≡◌, refl, ◌∙◌}
+use mathlib.Core.Bool.{Bool, true}
 use mathlib.Core.List.{List}
-use Prim.Native.Nat.{ℕ, ◌≤◌, ◌<◌}
-use native.Mathlib.Omega.{arith}
-use lib.IntN.{ℤ, pos, negsuc}
+use Prim.Native.Nat.{ℕ, min}
+use Rattle.std.proofs.Common.{Option, Some, None}
 use lib.ListN.{length, take}
-use lib.Seq.{length-take-le}
-use lib.Signed.{◌≤ℤ◌, ◌<ℤ◌, lt_z}
-use mir.Syntax.{w64}
-use mir.Val.{SFits, of_z, to_z}
-use mir.ValLaws.{to_z-of_z}
-use Rattle.std.proofs.lemmas.Int.{ints}
 use Rattle.session.specs.Feeding.{State, fed}
 use Rattle.session.specs.Sessions.{last_state}
-use Rattle.cuts.specs.Reads.{clamp_len, after_read, AfterRead}
+use Rattle.cuts.specs.Reads.{after_read, AfterRead}
 use Rattle.cuts.proofs.take_read.Goals as goal
 
-none_below : (got : ℤ) (most : ℕ) → got <ℤ pos 0 → 0 ≡ clamp_len got most
-none_below (pos k) most below = absurd (omega (arith, ints))
-none_below (negsuc k) most below = refl
-
 -- the read failed
-failed : (s : State) (got : ℤ) (chunk : List ℕ) → got <ℤ pos 0 → AfterRead s got chunk s 0 true
+failed : (s : State) (got : Option ℕ) (chunk : List ℕ) → got ≡ None → AfterRead s got chunk s 0 true
 unfolding after_read
-failed s got chunk below =
-    let test : lt_z got (pos 0) ≡ true = grind (arith, ints) in
-    record { came = none_below got (length chunk) below; state = λ _. rw test refl }
+failed s got chunk e = rw e (record { came = refl; state = λ _. refl })
 
-module _ (s s' : State) (got : ℤ) (chunk : List ℕ) (n count : ℕ) (wrote : Bool) (above : pos 0 ≤ℤ got) (came : n ≡ clamp_len got (length chunk)) where
-  test : lt_z got (pos 0) ≡ false
-  test = grind (arith, ints)
-
+module _ (s s' : State) (got : Option ℕ) (n : ℕ) (chunk : List ℕ) (count : ℕ) (wrote : Bool) (read : got ≡ Some n) (came : count ≡ min n (length chunk)) where
   -- nothing came
-  ended : n ≡ 0 → count ≡ 0 → s' ≡ last_state s → AfterRead s got chunk s' count wrote
+  ended : count ≡ 0 → s' ≡ last_state s → AfterRead s got chunk s' count wrote
   unfolding after_read
-  ended none e last = record { came = e ∙ sym none ∙ came; state = λ _. rw (test, ← came, eq-eqb n 0 none) last }
+  ended none last = rw read (record { came = came; state = λ _. rw (← came, eq-eqb count 0 none) last })
 
   -- some bytes came
-  some : 0 < n → n ≤ length chunk → count ≡ length (take n chunk) → (wrote ≡ true → s' ≡ fed s (take n chunk)) → AfterRead s got chunk s' count wrote
+  some : (count ≡ 0 → ⊥) → (wrote ≡ true → s' ≡ fed s (take count chunk)) → AfterRead s got chunk s' count wrote
   unfolding after_read
-  some more fits e state =
-      record {
-        came = e ∙ length-take-le n chunk fits ∙ came;
-        state = λ w. rw (test, ← came, ne_eqb n 0 (omega (arith, more))) (state w);
-      }
+  some more state = rw read (record { came = came; state = λ w. rw (← came, ne_eqb count 0 more) (state w) })
 
--- `got` as the machine reads it back from its bits
-came : (got : ℤ) (n most : ℕ) → SFits w64 got → n ≡ clamp_len (to_z w64 (of_z w64 got)) most → n ≡ clamp_len got most
-came got n most fits e = rw (to_z-of_z w64 got fits) at e
+pub returns-in-None : goal.returns-in-None
+returns-in-None g c = failed _ _ _ c.in-None.is
 
-pub returns-then-got-lt0 : goal.returns-then-got-lt0
-returns-then-got-lt0 g c = failed _ c.args.got c.args.chunk.now (omega (arith, ints))
+pub returns-then-count-eq0 : goal.returns-then-count-eq0
+returns-then-count-eq0 g c = ended _ _ _ c.in-Some.n _ _ _ c.in-Some.is c.min-count.ensures c.if-count-eq0.true c.finish-wrote.ensures
 
-pub returns-then-n-eq0 : goal.returns-then-n-eq0
-returns-then-n-eq0 g c =
-    ended _ _ c.args.got c.args.chunk.now c.count-n.result _ _ (omega (arith, ints)) (came c.args.got _ _ c.ranges.got c.count-n.ensures.value) c.if-n-eq0.true c.finish.ensures.count_value
-    c.finish.ensures.store_after
-
-pub returns : goal.returns
-returns g c =
-    some _ _ c.args.got c.args.chunk.now c.count-n.result _ _ (omega (arith, ints)) (came c.args.got _ _ c.ranges.got c.count-n.ensures.value) (omega (arith, c.if-n-eq0.false)) c.count-n.ensures.in_bounds
-    c.feed_chunk.ensures.count_value c.feed_chunk.ensures.store_after
+pub returns-else-count-eq0 : goal.returns-else-count-eq0
+returns-else-count-eq0 g c = some _ _ _ c.in-Some.n _ _ _ c.in-Some.is c.min-count.ensures c.if-count-eq0.false c.feed_chunk-wrote.ensures

@@ -7,9 +7,8 @@ use lib.IntN.{pos}
 use lib.ListN.{length, replicate, length-replicate}
 use Rattle.frame_call.specs.Call.{Outcome}
 use Rattle.frame_call.proofs.Returned.{lent_same}
-use Rattle.content.specs.declared.Answer.{Answer}
 use Rattle.content.specs.Options.{picture_options}
-use Rattle.content.specs.State.{bad_state, refused_answer, cleared_answer}
+use Rattle.content.specs.State.{Answer, bad_state, refused_answer, cleared_answer}
 use Rattle.content.specs.Step.{stepped}
 use Rattle.replay_filter.specs.Lists.{answered_of}
 use Rattle.replay_filter.proofs.answered.Goals as goal

@@ -1,31 +1,14 @@
 -- `session::chunk_end` meets its contract. Assumes nothing.
-use borrow.Author.Tests.{eq-eqb, ne_eqb}
-use mathlib.Core.Path.{◌≡◌, refl}
-use Prim.Native.Nat.{ℕ, ◌+◌, ◌<◌, min}
 use native.Mathlib.Omega.{arith}
+use borrow.Author.Tests.{eq-eqb, ne_eqb}
+use mathlib.Core.Path.{refl}
 use Rattle.session.specs.Feeding.{chunk_end}
 use Rattle.session.proofs.chunk_end.Goals as goal
 
--- of a size of 0, and of any other
-all_of : (a size n : ℕ) → size ≡ 0 → chunk_end a size n ≡ n
+pub returns-then-size-eq0-clause-value : goal.returns-then-size-eq0-clause-value
 unfolding chunk_end
-all_of a size n e = rw (eq-eqb size 0 e) refl
+returns-then-size-eq0-clause-value c = rw (eq-eqb c.args.size 0 c.if-size-eq0.true) refl
 
-some_of : (a size n : ℕ) → 0 < size → chunk_end a size n ≡ min n (a + size)
+pub returns-else-size-eq0-clause-value : goal.returns-else-size-eq0-clause-value
 unfolding chunk_end
-some_of a size n more = rw (ne_eqb size 0 (omega (arith, more))) refl
-
-pub returns-then-size-eq0 : goal.returns-then-size-eq0
-returns-then-size-eq0 c = let s = c.args in omega (arith, c.requires, all_of s.a s.size s.n c.if-size-eq0.true)
-
-pub returns-then-size-n : goal.returns-then-size-n
-returns-then-size-n c =
-    let s = c.args in
-    let more : 0 < s.size = omega (arith, c.if-size-eq0.false) in
-    omega (arith, c.requires, c.if-size-n.true, more, some_of s.a s.size s.n more)
-
-pub returns : goal.returns
-returns c =
-    let s = c.args in
-    let more : 0 < s.size = omega (arith, c.if-size-eq0.false) in
-    omega (arith, c.requires, c.if-size-n.false, more, some_of s.a s.size s.n more)
+returns-else-size-eq0-clause-value c = rw (ne_eqb c.args.size 0 c.if-size-eq0.false) (omega (arith, c.min.ensures, c.saturating_add.ensures, c.ranges.n.fits))

@@ -14,7 +14,7 @@ returns c = simp (
   c.strided.ensures,
   c.too_wide.ensures,
   c.at_most-side.ensures.value,
-  c.max.ensures,
+  c.larger_u32.ensures,
   c.area-n.ensures.value,
   c.area-need.ensures.value,
   c.padding.ensures.value,

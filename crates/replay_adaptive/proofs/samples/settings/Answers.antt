@@ -1,7 +1,6 @@
 -- `samples::settings` meets its contract: the number is that of the settings call.
 use mathlib.Core.Path.{ap}
-use Rattle.adaptive.specs.declared.Settled.{Settled}
-use Rattle.adaptive.specs.State.{settled}
+use Rattle.adaptive.specs.State.{Settled, settled}
 use Rattle.replay_adaptive.proofs.samples.settings.Goals as goal
 
 pub returns : goal.returns

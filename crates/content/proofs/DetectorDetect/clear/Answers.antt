@@ -1,0 +1,11 @@
+-- `clear` of content meets its contract: refused by 15, or as at the start.
+use Rattle.content.specs.State.{cleared_answer}
+use Rattle.content.proofs.DetectorDetect.clear.Goals as goal
+
+pub returns-then-is_bad : goal.returns-then-is_bad
+unfolding cleared_answer
+returns-then-is_bad c = rw (← c.is_bad.ensures, c.if-is_bad.true)
+
+pub returns : goal.returns
+unfolding cleared_answer
+returns c = rw (c.new.ensures, c.fresh_stream.ensures, ← c.is_bad.ensures, c.if-is_bad.false)
