@@ -9,7 +9,7 @@ use Rattle.window.specs.declared.Window.{Window}
 use Rattle.adaptive.specs.declared.Options.{Options}
 use Rattle.words.specs.Choices.{flag_word, flag_of, stamp_tag, stamp_word, stamp_of, score_tag, score_word, score_of, kernel_tag, kernel_word, kernel_of}
 use lib.Dec.{eqb}
-use Rattle.words.proofs.Made.{or-true, FloatAs, flag-low, stamp-low, score-low, kernel-low}
+use Rattle.words.proofs.Made.{or-true, FloatAs, flag-low, tag-low}
 use Rattle.adaptive_words.specs.Options.{adaptive_version, options_words, is_options, options_of}
 use Rattle.adaptive_words.specs.Window.{window_words, is_window, window_of}
 
@@ -29,7 +29,7 @@ options-made o w1 w4 w5 w6 w7 w8 w9 w10 w11 e1 wide e4 e5 e6 e7 e8 e9 e10 e11 = 
   (
     rw (
       lt-ltb o.window_width 4294967296 wide,
-      le-leb w9 1 (kernel-low o.kernel_size w9 e9),
+      le-leb w9 1 (tag-low o.kernel_size w9 e9),
       lt-ltb w10 4294967296 e10.1.1,
       or-true (eqb w9 0),
       le-leb w11 1 (flag-low o.initial_cut w11 e11.0),
@@ -52,7 +52,7 @@ unfolding window_words is_window window_of
 window-made v w1 w2 w3 w4 w5 w6 w7 e1 e2 e3 e4 e5 e6 e7 = (
   rw (e1.0, e2, e3.0, e4, e5.0, e6, e7.0),
   (
-    rw (le-leb w2 1 (stamp-low v.last_cut_ts w2 e2), le-leb w4 1 (score-low v.last_adaptive_ratio w4 e4), le-leb w6 1 (score-low v.last_target_score w6 e6)),
+    rw (le-leb w2 1 (tag-low v.last_cut_ts w2 e2), le-leb w4 1 (tag-low v.last_adaptive_ratio w4 e4), le-leb w6 1 (tag-low v.last_target_score w6 e6)),
     rw (e1.1, e2, e3.1, e4, e5.1, e6, e7.1),
   ),
 )

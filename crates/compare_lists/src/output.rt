@@ -3,10 +3,13 @@ ghost use Rattle.std.specs.Prelude.{◌≡◌};
 ghost use Rattle.compare_lists.specs.Records.{raised_of};
 ghost use Rattle.compare_lists.specs.Wrote.{Wrote};
 
-use crate::memory;
-use score::{Components, MaybeComponents, MaybeScore};
+use crate::{calls, memory};
+use detector::{Detect, Step};
+use refusal::Refused;
+use score::Components;
+use std::num::f64_to_bits_with_nan;
 use stream::Sums;
-use timestamp::{MaybeTimestamp, Since, Timestamp};
+use timestamp::Timestamp;
 
 // One byte at `at`; returns the next place.
 fn put(out: &mut [u8], at: usize, b: u8) -> usize
@@ -19,28 +22,34 @@ fn put(out: &mut [u8], at: usize, b: u8) -> usize
     at
 }
 
+fn put_bytes(out: &mut [u8], start: usize, bytes: &[u8]) -> usize
+    ensures { Wrote out.old out.new start result }
+{
+    let mut at = start;
+    for b in bytes {
+        at = put(out, at, *b);
+    }
+    at
+}
+
 // A number of 32 bits, least byte first.
-pub fn put_word(out: &mut [u8], at: usize, n: u32) -> usize
+pub fn put_word(out: &mut [u8], at: usize, word: u32) -> usize
     ensures { Wrote out.old out.new at result }
 {
-    let a = put(out, at, (n % 256) as u8);
-    let b = put(out, a, (n / 256 % 256) as u8);
-    let c = put(out, b, (n / 65536 % 256) as u8);
-    put(out, c, (n / 16777216 % 256) as u8)
+    put_bytes(out, at, &word.to_le_bytes())
 }
 
 // A number of 64 bits, least byte first.
-pub fn put_long(out: &mut [u8], at: usize, n: u64) -> usize
+pub fn put_long(out: &mut [u8], at: usize, long: u64) -> usize
     ensures { Wrote out.old out.new at result }
 {
-    let a = put_word(out, at, (n % 4294967296) as u32);
-    put_word(out, a, (n / 4294967296 % 4294967296) as u32)
+    put_bytes(out, at, &long.to_le_bytes())
 }
 
 pub fn put_double(out: &mut [u8], at: usize, x: f64) -> usize
     ensures { Wrote out.old out.new at result }
 {
-    put_long(out, at, replay::pattern(x))
+    put_long(out, at, f64_to_bits_with_nan(x))
 }
 
 fn put_components(out: &mut [u8], at: usize, c: Components) -> usize
@@ -67,24 +76,16 @@ fn put_sums(out: &mut [u8], at: usize, s: Sums) -> usize
 fn raised(t: Timestamp) -> u64
     ensures { result ≡ raised_of t }
 {
-    match timestamp::duration_since(
-        t,
-        Timestamp {
-            micros: -9223372036854775808,
-        },
-    ) {
-        Since::Earlier => 0,
-        Since::Micros(n) => n,
-    }
+    timestamp::duration_since(t, Timestamp { micros: i64::MIN }).unwrap_or(0)
 }
 
 // 0, or 1 and the stamp.
-pub fn put_cut(out: &mut [u8], at: usize, cut: MaybeTimestamp) -> usize
+pub fn put_cut(out: &mut [u8], at: usize, cut: Option<Timestamp>) -> usize
     ensures { Wrote out.old out.new at result }
 {
     match cut {
-        MaybeTimestamp::None => put(out, at, 0),
-        MaybeTimestamp::At(t) => {
+        None => put(out, at, 0),
+        Some(t) => {
             let next = put(out, at, 1);
             put_long(out, next, raised(t))
         }
@@ -92,12 +93,12 @@ pub fn put_cut(out: &mut [u8], at: usize, cut: MaybeTimestamp) -> usize
 }
 
 // 0, or 1 and the score.
-pub fn put_score(out: &mut [u8], at: usize, score: MaybeScore) -> usize
+pub fn put_score(out: &mut [u8], at: usize, score: Option<f64>) -> usize
     ensures { Wrote out.old out.new at result }
 {
     match score {
-        MaybeScore::None => put(out, at, 0),
-        MaybeScore::Some(x) => {
+        None => put(out, at, 0),
+        Some(x) => {
             let next = put(out, at, 1);
             put_double(out, next, x)
         }
@@ -105,28 +106,16 @@ pub fn put_score(out: &mut [u8], at: usize, score: MaybeScore) -> usize
 }
 
 // 0, or 1 and the components.
-fn put_maybe_components(out: &mut [u8], at: usize, last: MaybeComponents) -> usize
+fn put_maybe_components(out: &mut [u8], at: usize, last: Option<Components>) -> usize
     ensures { Wrote out.old out.new at result }
 {
     match last {
-        MaybeComponents::None => put(out, at, 0),
-        MaybeComponents::Some(c) => {
+        None => put(out, at, 0),
+        Some(c) => {
             let next = put(out, at, 1);
             put_components(out, next, c)
         }
     }
-}
-
-fn put_bytes(out: &mut [u8], start: usize, src: &[u8]) -> usize
-    ensures { Wrote out.old out.new start result }
-{
-    let mut at = start;
-    let mut i = 0;
-    while i < src.len() {
-        at = put(out, at, src[i]);
-        i += 1;
-    }
-    at
 }
 
 // The four planes of a frame of this size, and 16 bytes behind them.
@@ -134,33 +123,32 @@ pub fn put_store(out: &mut [u8], at: usize, width: u32, height: u32, store: &[u8
     ensures { Wrote out.old out.new at result }
 {
     let n = 4 * memory::area(width, height) + 16;
-    let e = memory::at_most(n, store.len());
-    put_bytes(out, at, &store[..e])
+    put_bytes(out, at, &store[..n.min(store.len())])
 }
 
-// What a call answers besides the state.
-pub fn put_answer(
+// What a call answers besides the state: a refused one brings its number alone.
+pub fn put_answer<D: Detect>(
     out: &mut [u8],
     start: usize,
-    number: u32,
-    cut: MaybeTimestamp,
-    score: MaybeScore,
-    components: Components,
-    sums: Sums,
+    answer: Result<Step<D>, Refused<D>>,
 ) -> usize
     ensures { Wrote out.old out.new start result }
 {
+    let (number, step) = match answer {
+        Ok(step) => (0, step),
+        Err(refused) => (refused.refusal.number(), calls::quiet(refused.state)),
+    };
     let a = put_word(out, start, number);
-    let b = put_cut(out, a, cut);
-    let c = put_score(out, b, score);
-    let e = put_components(out, c, components);
-    put_sums(out, e, sums)
+    let b = put_cut(out, a, step.cut);
+    let c = put_score(out, b, step.score);
+    let e = put_components(out, c, step.components);
+    put_sums(out, e, step.sums)
 }
 
 // What the readers of both detectors show.
-pub fn put_last(out: &mut [u8], at: usize, score: MaybeScore, components: MaybeComponents) -> usize
+pub fn put_last<D: Detect>(out: &mut [u8], at: usize, d: D) -> usize
     ensures { Wrote out.old out.new at result }
 {
-    let next = put_score(out, at, score);
-    put_maybe_components(out, next, components)
+    let next = put_score(out, at, detector::last_score(d));
+    put_maybe_components(out, next, detector::last_components(d))
 }

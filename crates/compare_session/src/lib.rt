@@ -11,9 +11,5 @@ ghost use Rattle.session.specs.Promises.{IsOutput};
 pub extern "C" fn mw_session(input: &[u8], size: usize, out: &mut [u8]) -> u64
     ensures { IsOutput input.now out.old out.new (ltb 0 result) result }
 {
-    let w = session::run(input, size, out);
-    if w.ok {
-        return w.written as u64;
-    }
-    0
+    session::run(input, size, out).unwrap_or(0) as u64
 }

@@ -11,7 +11,7 @@ use Rattle.filter.specs.declared.Filter.{Filter}
 use Rattle.content.specs.declared.Options.{Options}
 use Rattle.words.specs.Choices.{flag_word, flag_of, stamp_tag, stamp_word, stamp_of, kernel_tag, kernel_word, kernel_of}
 use lib.Dec.{eqb}
-use Rattle.words.proofs.Made.{or-true, FloatAs, flag-low, stamp-low, kernel-low}
+use Rattle.words.proofs.Made.{or-true, FloatAs, flag-low, tag-low}
 use Rattle.content_words.specs.Options.{content_version, mode_word, mode_of, options_words, is_options, options_of}
 use Rattle.content_words.specs.Filter.{filter_words, is_filter, filter_of}
 
@@ -34,7 +34,7 @@ options-made o w1 w3 w4 w5 w6 w7 w8 w9 w10 e1 e3 e4 e5 e6 e7 e8 e9 e10 = (
   (
     rw (
       le-leb w7 1 (mode-low o.filter_mode w7 e7.0),
-      le-leb w8 1 (kernel-low o.kernel_size w8 e8),
+      le-leb w8 1 (tag-low o.kernel_size w8 e8),
       lt-ltb w9 4294967296 e9.1.1,
       or-true (eqb w8 0),
       le-leb w10 1 (flag-low o.initial_cut w10 e10.0),
@@ -57,10 +57,10 @@ filter-made f w0 w1 w2 w3 w4 w5 e0 e1 e2 e3 e4 e5 = (
   rw (e0, e1.0, e2.0, e3.0, e4, e5.0),
   (
     rw (
-      le-leb w0 1 (stamp-low f.last_above w0 e0),
+      le-leb w0 1 (tag-low f.last_above w0 e0),
       le-leb w2 1 (flag-low f.merge_enabled w2 e2.0),
       le-leb w3 1 (flag-low f.merge_triggered w3 e3.0),
-      le-leb w4 1 (stamp-low f.merge_start w4 e4),
+      le-leb w4 1 (tag-low f.merge_start w4 e4),
     ),
     rw (e0, e1.1, e2.1, e3.1, e4, e5.1),
   ),

@@ -6,7 +6,7 @@ ghost use Rattle.session.specs.Feeding.{fed};
 ghost use Rattle.session.specs.Sessions.{state_of, last_state};
 ghost use Rattle.cuts.specs.Reads.{clamp_len, goes_on, AfterRead, FedSome};
 
-use session::{HEADER, HELD, PIXELS, ROOM, SCRATCH, STORE, Session};
+use session::{HEADER, Memory, ROOM, Session};
 use std::io;
 use std::io::Read;
 
@@ -46,32 +46,19 @@ fn feed_chunk(
     rt: &(impl Print + Eprint),
     s: Session,
     chunk: &[u8],
-    line: &mut [u8; HELD],
-    luma: &mut [u8; PIXELS],
-    store: &mut [u8; STORE],
-    scratch: &mut [u8; SCRATCH],
-    magnitudes: &mut [i32; PIXELS],
+    memory: &mut Memory,
     out: &mut [u8],
 ) -> Turn
     requires { 64 ≤ length out.old }
     ensures count_value { result.count ≡ length chunk.now }
-    ensures store_after { result.wrote ≡ true → state_of result.session line.new store.new ≡ fed (state_of s line.old store.old) chunk.now }
+    ensures store_after { result.wrote ≡ true → state_of result.session memory.new.line memory.new.store ≡ fed (state_of s memory.old.line memory.old.store) chunk.now }
 {
     let mut state = s;
     let mut a = 0;
+    // Kept: no `for` fits, since each turn takes as many bytes as `out` has room for.
     while a < chunk.len() {
-        let f = session::feed(
-            state,
-            &chunk[a..],
-            line,
-            luma,
-            store,
-            scratch,
-            magnitudes,
-            out,
-        );
-        let next = f.session;
-        state = next;
+        let f = session::feed(state, &chunk[a..], memory, out);
+        state = f.session;
         if !write_out(rt, out, f.written) {
             return Turn {
                 session: state,
@@ -89,42 +76,26 @@ fn feed_chunk(
 }
 
 // The end of the input: the last line, if no line feed ended it.
-fn finish(
-    rt: &(impl Print + Eprint),
-    s: Session,
-    line: &[u8; HELD],
-    luma: &mut [u8; PIXELS],
-    store: &mut [u8; STORE],
-    scratch: &mut [u8; SCRATCH],
-    magnitudes: &mut [i32; PIXELS],
-) -> Turn
-    ensures store_after { state_of result.session line.now store.new ≡ last_state (state_of s line.now store.old) }
+fn finish(rt: &(impl Print + Eprint), s: Session, memory: &mut Memory) -> Turn
+    ensures store_after { state_of result.session memory.new.line memory.new.store ≡ last_state (state_of s memory.old.line memory.old.store) }
     ensures count_value { result.count ≡ 0 }
 {
     let mut out = [0u8; ROOM];
-    let f = session::finish(s, line, luma, store, scratch, magnitudes, &mut out);
+    let f = session::finish(s, memory, &mut out);
     let wrote = write_out(rt, &out, f.written);
-    let next = f.session;
     Turn {
-        session: next,
+        session: f.session,
         count: 0,
         wrote,
     }
 }
 
 // How many bytes of `chunk` a read that gave `got` brought: none where it failed, and never more than there are.
-fn count(got: isize, chunk: &[u8]) -> usize
+fn count(got: Option<usize>, chunk: &[u8]) -> usize
     ensures in_bounds { result ≤ length chunk.now }
     ensures value { result ≡ clamp_len got (length chunk.now) }
 {
-    if got < 0 {
-        return 0;
-    }
-    let n = got as usize;
-    if n < chunk.len() {
-        return n;
-    }
-    chunk.len()
+    got.unwrap_or(0).min(chunk.len())
 }
 
 // What follows a read that gave `got` and left its bytes at the start of `chunk`: all of them are fed. Where nothing came the input has
@@ -132,19 +103,15 @@ fn count(got: isize, chunk: &[u8]) -> usize
 fn take_read(
     rt: &(impl Print + Eprint),
     s: Session,
-    got: isize,
+    got: Option<usize>,
     chunk: &[u8],
-    line: &mut [u8; HELD],
-    luma: &mut [u8; PIXELS],
-    store: &mut [u8; STORE],
-    scratch: &mut [u8; SCRATCH],
-    magnitudes: &mut [i32; PIXELS],
+    memory: &mut Memory,
     out: &mut [u8],
 ) -> Turn
     requires { 64 ≤ length out.old }
-    ensures { AfterRead (state_of s line.old store.old) got chunk.now (state_of result.session line.new store.new) result.count result.wrote }
+    ensures { AfterRead (state_of s memory.old.line memory.old.store) got chunk.now (state_of result.session memory.new.line memory.new.store) result.count result.wrote }
 {
-    if got < 0 {
+    if got.is_none() {
         return Turn {
             session: s,
             count: 0,
@@ -153,28 +120,18 @@ fn take_read(
     }
     let n = count(got, chunk);
     if n == 0 {
-        return finish(rt, s, line, luma, store, scratch, magnitudes);
+        return finish(rt, s, memory);
     }
-    feed_chunk(
-        rt,
-        s,
-        &chunk[..n],
-        line,
-        luma,
-        store,
-        scratch,
-        magnitudes,
-        out,
-    )
+    feed_chunk(rt, s, &chunk[..n], memory, out)
 }
 
-// Reads into the start of `chunk`: how many bytes came, or a number below 0 where the read failed, and says why it did.
-fn read_chunk(rt: &impl Eprint, input: &mut impl Read, chunk: &mut [u8]) -> isize {
+// Reads into the start of `chunk`: how many bytes came, or none where the read failed, and says why it did.
+fn read_chunk(rt: &impl Eprint, input: &mut impl Read, chunk: &mut [u8]) -> Option<usize> {
     match input.read(chunk) {
-        Ok(n) => n as isize,
+        Ok(n) => Some(n),
         Err(e) => {
             let _ = eprintln!(rt; "standard input: {e}");
-            -1
+            None
         }
     }
 }
@@ -184,31 +141,22 @@ fn read_some(
     rt: &(impl Print + Eprint),
     input: &mut impl Read,
     s: Session,
-    line: &mut [u8; HELD],
-    luma: &mut [u8; PIXELS],
-    store: &mut [u8; STORE],
-    scratch: &mut [u8; SCRATCH],
-    magnitudes: &mut [i32; PIXELS],
+    memory: &mut Memory,
     chunk: &mut [u8],
     out: &mut [u8],
 ) -> Turn
     requires { 64 ≤ length out.old }
-    ensures { FedSome (state_of s line.old store.old) chunk.new (state_of result.session line.new store.new) result.count result.wrote }
+    ensures { FedSome (state_of s memory.old.line memory.old.store) chunk.new (state_of result.session memory.new.line memory.new.store) result.count result.wrote }
 {
     let got = read_chunk(rt, input, chunk);
-    take_read(
-        rt, s, got, chunk, line, luma, store, scratch, magnitudes, out,
-    )
+    take_read(rt, s, got, chunk, memory, out)
 }
 
 // Whether to read again: until a read gives no bytes, or a write fails.
 fn goes_on(count: usize, wrote: bool) -> bool
     ensures { result ≡ goes_on count wrote }
 {
-    if count == 0 {
-        return false;
-    }
-    wrote
+    count > 0 && wrote
 }
 
 // Reads and feeds to the end of the input: there is more to read only after the most reads. What was read before is overwritten, so this
@@ -216,11 +164,7 @@ fn goes_on(count: usize, wrote: bool) -> bool
 fn run(
     rt: &(impl Print + Eprint),
     input: &mut impl Read,
-    line: &mut [u8; HELD],
-    luma: &mut [u8; PIXELS],
-    store: &mut [u8; STORE],
-    scratch: &mut [u8; SCRATCH],
-    magnitudes: &mut [i32; PIXELS],
+    memory: &mut Memory,
     chunk: &mut [u8],
     out: &mut [u8],
 ) -> Ended
@@ -229,16 +173,14 @@ fn run(
 {
     let mut state = session::new();
     let mut reads: u64 = 0;
+    // Kept: the contract tells how many reads there were, which the loop counts.
     while reads < MOST_READS {
-        let t = read_some(
-            rt, input, state, line, luma, store, scratch, magnitudes, chunk, out,
-        );
+        let t = read_some(rt, input, state, memory, chunk, out);
         reads += 1;
         if !goes_on(t.count, t.wrote) {
             return Ended { reads, more: false };
         }
-        let next = t.session;
-        state = next;
+        state = t.session;
     }
     Ended { reads, more: true }
 }
@@ -248,25 +190,10 @@ fn main(rt: HostRuntime) -> io::Result<()> {
     if !write_out(&rt, &header, HEADER) {
         return Ok(());
     }
-    let mut line = [0u8; HELD];
-    let mut luma = [0u8; PIXELS];
-    let mut store = [0u8; STORE];
-    let mut scratch = [0u8; SCRATCH];
-    let mut magnitudes = [0i32; PIXELS];
     let mut chunk = [0u8; 65536];
     let mut out = [0u8; 65536];
     let mut input = rt.stdin();
-    let e = run(
-        &rt,
-        &mut input,
-        &mut line,
-        &mut luma,
-        &mut store,
-        &mut scratch,
-        &mut magnitudes,
-        &mut chunk,
-        &mut out,
-    );
+    let e = run(&rt, &mut input, &mut Memory::new(), &mut chunk, &mut out);
     if e.more {
         eprintln!(rt; "standard input: too many reads")?;
     }

@@ -1,11 +1,12 @@
 -- A text placed in memory: what is placed after it, and the length.
 use mathlib.Core.Path.{◌≡◌, refl, ap, ◌∙◌}
 use mathlib.Core.List.{List, [], ◌∷◌, ◌++◌, append_assoc}
-use Prim.Native.Nat.{ℕ, ◌+◌, ◌≤◌, ◌<◌}
+use Prim.Native.Nat.{ℕ, ◌+◌, ◌-◌, ◌≤◌, ◌<◌}
 use native.Mathlib.Numerals.{add-one}
 use native.Mathlib.Omega.{arith}
 use lib.ListN.{length, take, drop, set, take-append-drop, length-append}
 use lib.Seq.{length-take-le, drop-drop, set_split}
+use borrow.Rule.Slice.PartMut.{put_mid}
 use Rattle.laws.proofs.Parts.{put-length}
 use Rattle.laws.proofs.Joined.{next-put}
 use Rattle.decimal.specs.Placed.{placed}
@@ -32,6 +33,11 @@ placed-after out at s t fits =
 -- the place of the second may be given as a sum
 pub placed-next : (out : List ℕ) (at a : ℕ) (s t : List ℕ) → at ≤ length out → a ≡ at + length s → placed (placed out at s) a t ≡ placed out at (s ++ t)
 placed-next out at a s t fits e = rw e (placed-after out at s t fits)
+
+-- a part of the memory that is written whole
+pub placed-part : (out : List ℕ) (at : ℕ) (s new : List ℕ) → new ≡ s → put_mid at (at + length s - at) out new ≡ placed out at s
+unfolding placed
+placed-part out at s new e = let size : at + length s - at ≡ length s = omega arith in rw (size, e)
 
 pub placed-byte : (out : List ℕ) (at b : ℕ) → at < length out → set out at b ≡ placed out at (b ∷ [])
 unfolding placed

@@ -3,66 +3,58 @@
 // its step.
 #![tactic(auto)]
 
-ghost use Rattle.std.specs.Prelude.{◌≡◌, ◌+◌, ◌*◌, ◌≤◌, length};
-ghost use Rattle.stream.specs.Stream.{no_sums, memory_refusal};
+ghost use Rattle.std.specs.Prelude.{◌≡◌, ◌+◌, ◌*◌, ◌≤◌, length, Ok, OnOk};
+ghost use Rattle.refusal.specs.Refusal.{number_in};
+ghost use Rattle.stream.specs.Stream.{memory_refusal};
 ghost use Rattle.frame.specs.Checks.{luma_refusal, bgr_refusal, hsv_refusal};
 ghost use Rattle.scoring.specs.Planes.{luma_frame, bgr_frame, hsv_frame, planes_in};
-ghost use Rattle.frame_call.specs.Call.{memory, call_refusal, accepted, pictured, Called};
+ghost use Rattle.frame_call.specs.Call.{memory, call_refusal, accepted, pictured, picture_in, Called};
 
-use score::{Components, KernelSize};
+use refusal::Refusal;
+use score::Components;
 use stream::{Stream, Sums};
 
 // The settings that a frame's picture is scored by.
-#[derive(Clone, Copy)]
+#[derive(Clone, Copy, Debug, PartialEq)]
 pub struct PictureOptions {
     pub weights: Components,
-    pub kernel_size: KernelSize,
+    pub kernel_size: Option<u32>,
 }
 
-// The result of a frame, for either detector: a refusal's number or 0, the stream after it (refused: as it was) and the sums of its
-// differences (refused: all 0).
-#[derive(Clone, Copy)]
+// What an accepted frame is, for either detector: the stream after it and the sums of its differences.
+#[derive(Clone, Copy, Debug, PartialEq)]
 pub struct Picture {
-    pub number: u32,
     pub stream: Stream,
     pub sums: Sums,
 }
 
-// The number of a frame call's refusal, or 0, by that of the frame.
-fn call_refusal(
+// The first refusal of a frame call, by that of the frame.
+#[tactic(auto, unfolding(crate::specs::Call::call_refusal, stream::specs::Stream::memory_refusal))]
+fn check_call(
     bad: bool,
-    frame: u32,
+    frame: Result<(), Refusal>,
     store: usize,
     scratch: usize,
     magnitudes: usize,
     width: u32,
     height: u32,
-) -> u32
-    requires { frame ≡ 0 → (width ≤ 4096) × (height ≤ 4096) }
-    ensures { result ≡ call_refusal bad frame (memory_refusal store scratch magnitudes width height) }
+) -> Result<(), Refusal>
+    requires { OnOk frame ((width ≤ 4096) × (height ≤ 4096)) }
+    ensures number { number_in result ≡ call_refusal bad (number_in frame) (memory_refusal store scratch magnitudes width height) }
+    ensures frame_passes { OnOk result (frame ≡ Ok tt) }
+    ensures store_room { OnOk result (4 * (width * height) ≤ store) }
+    ensures scratch_room { OnOk result (7 * (width * height) ≤ scratch) }
+    ensures magnitudes_room { OnOk result (width * height ≤ magnitudes) }
 {
     if bad {
-        return 15;
+        return Err(Refusal::BadState);
     }
-    if 0 < frame {
-        return frame;
-    }
-    stream::memory_refusal(store, scratch, magnitudes, width, height)
-}
-
-// A refused frame.
-fn refuse(s: Stream, number: u32) -> Picture
-    ensures { result ≡ record { number = number; stream = s; sums = no_sums } }
-{
-    let none = stream::no_sums();
-    Picture {
-        number: number,
-        stream: s,
-        sums: none,
-    }
+    frame?;
+    stream::check_memory(store, scratch, magnitudes, width, height)
 }
 
 // An accepted frame, once its planes are at the start of the scratch.
+#[tactic(auto, unfolding(crate::specs::Call::accepted))]
 fn accept(
     s: Stream,
     o: PictureOptions,
@@ -76,29 +68,22 @@ fn accept(
     requires height_in_bounds { width * height + (width * height + (width * height + width * height)) ≤ length store.old }
     requires height_in_bounds_2 { width * height + (width * height + (width * height + width * height)) ≤ length scratch.old }
     requires height_in_bounds_3 { width * height ≤ length magnitudes.old }
-    ensures value { result ≡ (accepted s o width height (planes_in (width * height) scratch.old) store.old).answer }
+    ensures value { picture_in s (Ok result) ≡ (accepted s o width height (planes_in (width * height) scratch.old) store.old).answer }
     ensures store_after { store.new ≡ (accepted s o width height (planes_in (width * height) scratch.old) store.old).store }
 {
-    let weights = o.weights;
-    let size = o.kernel_size;
-    let edges = score::edges_enabled(weights);
-    let k = scoring::kernel(size, width, height);
-    let scored = stream::is_scored(s, width, height);
     let sums = scoring::frame_sums(
         store,
         scratch,
         magnitudes,
         width as usize,
         height as usize,
-        edges,
-        k,
-        scored,
+        score::edges_enabled(o.weights),
+        scoring::kernel(o.kernel_size, width, height),
+        stream::is_scored(s, width, height),
     );
-    let after = stream::next_stream(s, width, height, weights, sums);
     Picture {
-        number: 0,
-        stream: after,
-        sums: sums,
+        stream: stream::next_stream(s, width, height, o.weights, sums),
+        sums,
     }
 }
 
@@ -114,11 +99,11 @@ pub fn process_luma(
     store: &mut [u8],
     scratch: &mut [u8],
     magnitudes: &mut [i32],
-) -> Picture
-    ensures { Called (pictured s o bad (luma_refusal (length plane.now) width height stride) width height (luma_frame plane.now width height stride) (memory store.old scratch.old magnitudes.old)) result result.number (memory store.old scratch.old magnitudes.old) (memory store.new scratch.new magnitudes.new) }
+) -> Result<Picture, Refusal>
+    ensures { Called (pictured s o bad (luma_refusal (length plane.now) width height stride) width height (luma_frame plane.now width height stride) (memory store.old scratch.old magnitudes.old)) (picture_in s result) (picture_in s result).number (memory store.old scratch.old magnitudes.old) (memory store.new scratch.new magnitudes.new) }
 {
-    let frame = frame::luma_refusal(plane.len(), width, height, stride);
-    let luma_number = call_refusal(
+    let frame = frame::check_luma(plane, width, height, stride);
+    check_call(
         bad,
         frame,
         store.len(),
@@ -126,15 +111,12 @@ pub fn process_luma(
         magnitudes.len(),
         width,
         height,
-    );
-    if 0 < luma_number {
-        return refuse(s, luma_number);
-    }
+    )?;
     let w = width as usize;
     let h = height as usize;
     let e = 3 * (w * h);
-    scoring::fill_luma(&mut scratch[0..e], plane, w, h, stride as usize);
-    accept(s, o, store, scratch, magnitudes, width, height)
+    scoring::fill_luma(&mut scratch[..e], plane, w, h, stride as usize);
+    Ok(accept(s, o, store, scratch, magnitudes, width, height))
 }
 
 // A BGR frame.
@@ -149,11 +131,11 @@ pub fn process_bgr(
     store: &mut [u8],
     scratch: &mut [u8],
     magnitudes: &mut [i32],
-) -> Picture
-    ensures { Called (pictured s o bad (bgr_refusal (length pixels.now) width height stride) width height (bgr_frame pixels.now width height stride) (memory store.old scratch.old magnitudes.old)) result result.number (memory store.old scratch.old magnitudes.old) (memory store.new scratch.new magnitudes.new) }
+) -> Result<Picture, Refusal>
+    ensures { Called (pictured s o bad (bgr_refusal (length pixels.now) width height stride) width height (bgr_frame pixels.now width height stride) (memory store.old scratch.old magnitudes.old)) (picture_in s result) (picture_in s result).number (memory store.old scratch.old magnitudes.old) (memory store.new scratch.new magnitudes.new) }
 {
-    let frame = frame::bgr_refusal(pixels.len(), width, height, stride);
-    let bgr_number = call_refusal(
+    let frame = frame::check_bgr(pixels, width, height, stride);
+    check_call(
         bad,
         frame,
         store.len(),
@@ -161,15 +143,12 @@ pub fn process_bgr(
         magnitudes.len(),
         width,
         height,
-    );
-    if 0 < bgr_number {
-        return refuse(s, bgr_number);
-    }
+    )?;
     let w = width as usize;
     let h = height as usize;
     let e = 3 * (w * h);
-    scoring::fill_bgr(&mut scratch[0..e], pixels, w, h, stride as usize);
-    accept(s, o, store, scratch, magnitudes, width, height)
+    scoring::fill_bgr(&mut scratch[..e], pixels, w, h, stride as usize);
+    Ok(accept(s, o, store, scratch, magnitudes, width, height))
 }
 
 // An HSV frame.
@@ -186,18 +165,11 @@ pub fn process_hsv(
     store: &mut [u8],
     scratch: &mut [u8],
     magnitudes: &mut [i32],
-) -> Picture
-    ensures { Called (pictured s o bad (hsv_refusal (length hue.now) (length saturation.now) (length value.now) width height stride) width height (hsv_frame hue.now saturation.now value.now width height stride) (memory store.old scratch.old magnitudes.old)) result result.number (memory store.old scratch.old magnitudes.old) (memory store.new scratch.new magnitudes.new) }
+) -> Result<Picture, Refusal>
+    ensures { Called (pictured s o bad (hsv_refusal (length hue.now) (length saturation.now) (length value.now) width height stride) width height (hsv_frame hue.now saturation.now value.now width height stride) (memory store.old scratch.old magnitudes.old)) (picture_in s result) (picture_in s result).number (memory store.old scratch.old magnitudes.old) (memory store.new scratch.new magnitudes.new) }
 {
-    let frame = frame::hsv_refusal(
-        hue.len(),
-        saturation.len(),
-        value.len(),
-        width,
-        height,
-        stride,
-    );
-    let hsv_number = call_refusal(
+    let frame = frame::check_hsv(hue, saturation, value, width, height, stride);
+    check_call(
         bad,
         frame,
         store.len(),
@@ -205,15 +177,12 @@ pub fn process_hsv(
         magnitudes.len(),
         width,
         height,
-    );
-    if 0 < hsv_number {
-        return refuse(s, hsv_number);
-    }
+    )?;
     let w = width as usize;
     let h = height as usize;
     let e = 3 * (w * h);
     scoring::fill_hsv(
-        &mut scratch[0..e],
+        &mut scratch[..e],
         hue,
         saturation,
         value,
@@ -221,5 +190,5 @@ pub fn process_hsv(
         h,
         stride as usize,
     );
-    accept(s, o, store, scratch, magnitudes, width, height)
+    Ok(accept(s, o, store, scratch, magnitudes, width, height))
 }

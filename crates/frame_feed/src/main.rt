@@ -2,39 +2,53 @@
 // 3 × 3 pixels, BGR frames of 2 × 2 pixels. For each frame it prints one line: the kind, the constructor's number, the number of the
 // detector's answer, and the answer's sums of hue, saturation, luma and edge differences and its count (RULES 4.4). The cut stands on a line
 // below, if there is one.
-// Only the six functions `content_luma` to `adaptive_hsv` hold a record (RULES 2.8). Their parameters and results are plain.
+// Only the functions `apart` and `feed_luma` to `feed_hsv` hold a record (RULES 2.8). Their other parameters and their results are plain.
 #![tactic(auto)]
 
 ghost use Rattle.std.specs.Prelude.{◌≡◌, length};
 ghost use Rattle.frame.specs.Checks.{luma_refusal, bgr_refusal, hsv_refusal};
 ghost use Rattle.stream.specs.Stream.{FromSums};
-ghost use Rattle.frame_call.specs.Call.{luma, bgr, hsv, memory, Called};
-ghost use Rattle.content.specs.Step.{called};
-ghost use Rattle.adaptive.specs.Step.{called as adaptive_called};
+ghost use Rattle.frame_call.specs.Call.{luma, bgr, hsv, memory, outcome_of, Called};
+ghost use Rattle.detector.specs.Answers.{without_score, answer_in, settled_in};
+ghost use Rattle.frame_records.specs.Frames.{made_in};
 
+use detector::{Detect, Step};
 use frame_records::{HsvFrame, LumaFrame, RgbFrame};
+use refusal::Refused;
 use score::Components;
 use std::io;
-use stream::Sums;
-use timestamp::{MaybeTimestamp, Since, Timestamp};
+use timestamp::Timestamp;
 
-// The number of a frame by its constructor, and the answer of the content detector to it.
-#[derive(Clone, Copy)]
-struct ContentFed {
+// A frame, and its number by its constructor: 0 where it is accepted.
+struct Made<F> {
     number: u32,
-    answer: content::Answer,
+    frame: F,
 }
 
-// The same of the adaptive detector.
+// The number of a frame by its constructor, and the answer of a detector to it.
 #[derive(Clone, Copy)]
-struct AdaptiveFed {
+struct Fed<D> {
     number: u32,
-    answer: adaptive::Answer,
+    answer: Result<Step<D>, Refused<D>>,
 }
 
-// A luma frame to the content detector, through its record.
-fn content_luma(
-    d: content::Detector,
+// What a constructor returns, taken apart.
+fn apart<F>(made: Result<F, Refused<F>>) -> Made<F>
+    ensures number { result.number ≡ (made_in made).number }
+    ensures frame { result.frame ≡ (made_in made).frame }
+{
+    match made {
+        Ok(frame) => Made { number: 0, frame },
+        Err(refused) => Made {
+            number: refused.refusal.number(),
+            frame: refused.state,
+        },
+    }
+}
+
+// A luma frame to a detector, through its record.
+fn feed_luma<D: Detect>(
+    d: D,
     plane: &[u8],
     width: u32,
     height: u32,
@@ -43,19 +57,21 @@ fn content_luma(
     store: &mut [u8],
     scratch: &mut [u8],
     magnitudes: &mut [i32],
-) -> ContentFed
-    ensures { (result.number ≡ luma_refusal (length plane.now) width height stride) × Called (called d (luma plane.now width height stride ts (memory store.old scratch.old magnitudes.old))) result.answer result.answer.number (memory store.old scratch.old magnitudes.old) (memory store.new scratch.new magnitudes.new) × FromSums d.options.weights result.answer.score result.answer.components result.answer.sums }
+) -> Fed<D>
+    ensures number { result.number ≡ luma_refusal (length plane.now) width height stride }
+    ensures called { Called (outcome_of (D.stream d) (D.settings d) (D.bad d) (D.stepped d) (without_score d) (D.cleared d) (luma plane.now width height stride ts (memory store.old scratch.old magnitudes.old))) (answer_in result.answer) (answer_in result.answer).number (memory store.old scratch.old magnitudes.old) (memory store.new scratch.new magnitudes.new) }
+    ensures from_sums { FromSums (D.settings d).weights (answer_in result.answer).score (answer_in result.answer).components (answer_in result.answer).sums }
 {
-    let made = LumaFrame::try_new(plane, width, height, stride, ts);
-    ContentFed {
-        number: made.number,
-        answer: content_records::process_luma(d, made.frame, store, scratch, magnitudes),
+    let Made { number, frame } = apart(LumaFrame::try_new(plane, width, height, stride, ts));
+    Fed {
+        number,
+        answer: records::process_luma(d, frame, store, scratch, magnitudes),
     }
 }
 
-// A BGR frame to the content detector, through its record.
-fn content_bgr(
-    d: content::Detector,
+// A BGR frame to a detector, through its record.
+fn feed_bgr<D: Detect>(
+    d: D,
     pixels: &[u8],
     width: u32,
     height: u32,
@@ -64,19 +80,21 @@ fn content_bgr(
     store: &mut [u8],
     scratch: &mut [u8],
     magnitudes: &mut [i32],
-) -> ContentFed
-    ensures { (result.number ≡ bgr_refusal (length pixels.now) width height stride) × Called (called d (bgr pixels.now width height stride ts (memory store.old scratch.old magnitudes.old))) result.answer result.answer.number (memory store.old scratch.old magnitudes.old) (memory store.new scratch.new magnitudes.new) × FromSums d.options.weights result.answer.score result.answer.components result.answer.sums }
+) -> Fed<D>
+    ensures number { result.number ≡ bgr_refusal (length pixels.now) width height stride }
+    ensures called { Called (outcome_of (D.stream d) (D.settings d) (D.bad d) (D.stepped d) (without_score d) (D.cleared d) (bgr pixels.now width height stride ts (memory store.old scratch.old magnitudes.old))) (answer_in result.answer) (answer_in result.answer).number (memory store.old scratch.old magnitudes.old) (memory store.new scratch.new magnitudes.new) }
+    ensures from_sums { FromSums (D.settings d).weights (answer_in result.answer).score (answer_in result.answer).components (answer_in result.answer).sums }
 {
-    let made = RgbFrame::try_new(pixels, width, height, stride, ts);
-    ContentFed {
-        number: made.number,
-        answer: content_records::process_bgr(d, made.frame, store, scratch, magnitudes),
+    let Made { number, frame } = apart(RgbFrame::try_new(pixels, width, height, stride, ts));
+    Fed {
+        number,
+        answer: records::process_bgr(d, frame, store, scratch, magnitudes),
     }
 }
 
-// An HSV frame to the content detector, through its record.
-fn content_hsv<'a>(
-    d: content::Detector,
+// An HSV frame to a detector, through its record.
+fn feed_hsv<'a, D: Detect>(
+    d: D,
     hue: &'a [u8],
     saturation: &'a [u8],
     value: &'a [u8],
@@ -87,168 +105,81 @@ fn content_hsv<'a>(
     store: &mut [u8],
     scratch: &mut [u8],
     magnitudes: &mut [i32],
-) -> ContentFed
-    ensures { (result.number ≡ hsv_refusal (length hue.now) (length saturation.now) (length value.now) width height stride) × Called (called d (hsv hue.now saturation.now value.now width height stride ts (memory store.old scratch.old magnitudes.old))) result.answer result.answer.number (memory store.old scratch.old magnitudes.old) (memory store.new scratch.new magnitudes.new) × FromSums d.options.weights result.answer.score result.answer.components result.answer.sums }
+) -> Fed<D>
+    ensures number { result.number ≡ hsv_refusal (length hue.now) (length saturation.now) (length value.now) width height stride }
+    ensures called { Called (outcome_of (D.stream d) (D.settings d) (D.bad d) (D.stepped d) (without_score d) (D.cleared d) (hsv hue.now saturation.now value.now width height stride ts (memory store.old scratch.old magnitudes.old))) (answer_in result.answer) (answer_in result.answer).number (memory store.old scratch.old magnitudes.old) (memory store.new scratch.new magnitudes.new) }
+    ensures from_sums { FromSums (D.settings d).weights (answer_in result.answer).score (answer_in result.answer).components (answer_in result.answer).sums }
 {
-    let made = HsvFrame::try_new(hue, saturation, value, width, height, stride, ts);
-    ContentFed {
-        number: made.number,
-        answer: content_records::process_hsv(d, made.frame, store, scratch, magnitudes),
+    let Made { number, frame } = apart(HsvFrame::try_new(
+        hue, saturation, value, width, height, stride, ts,
+    ));
+    Fed {
+        number,
+        answer: records::process_hsv(d, frame, store, scratch, magnitudes),
     }
 }
 
-// A luma frame to the adaptive detector, through its record.
-fn adaptive_luma(
-    d: adaptive::Detector,
-    plane: &[u8],
-    width: u32,
-    height: u32,
-    stride: u32,
-    ts: Timestamp,
-    store: &mut [u8],
-    scratch: &mut [u8],
-    magnitudes: &mut [i32],
-) -> AdaptiveFed
-    ensures { (result.number ≡ luma_refusal (length plane.now) width height stride) × Called (adaptive_called d (luma plane.now width height stride ts (memory store.old scratch.old magnitudes.old))) result.answer result.answer.number (memory store.old scratch.old magnitudes.old) (memory store.new scratch.new magnitudes.new) × FromSums d.options.weights result.answer.score result.answer.components result.answer.sums }
-{
-    let made = LumaFrame::try_new(plane, width, height, stride, ts);
-    AdaptiveFed {
-        number: made.number,
-        answer: adaptive_records::process_luma(d, made.frame, store, scratch, magnitudes),
-    }
-}
-
-// A BGR frame to the adaptive detector, through its record.
-fn adaptive_bgr(
-    d: adaptive::Detector,
-    pixels: &[u8],
-    width: u32,
-    height: u32,
-    stride: u32,
-    ts: Timestamp,
-    store: &mut [u8],
-    scratch: &mut [u8],
-    magnitudes: &mut [i32],
-) -> AdaptiveFed
-    ensures { (result.number ≡ bgr_refusal (length pixels.now) width height stride) × Called (adaptive_called d (bgr pixels.now width height stride ts (memory store.old scratch.old magnitudes.old))) result.answer result.answer.number (memory store.old scratch.old magnitudes.old) (memory store.new scratch.new magnitudes.new) × FromSums d.options.weights result.answer.score result.answer.components result.answer.sums }
-{
-    let made = RgbFrame::try_new(pixels, width, height, stride, ts);
-    AdaptiveFed {
-        number: made.number,
-        answer: adaptive_records::process_bgr(d, made.frame, store, scratch, magnitudes),
-    }
-}
-
-// An HSV frame to the adaptive detector, through its record.
-fn adaptive_hsv<'a>(
-    d: adaptive::Detector,
-    hue: &'a [u8],
-    saturation: &'a [u8],
-    value: &'a [u8],
-    width: u32,
-    height: u32,
-    stride: u32,
-    ts: Timestamp,
-    store: &mut [u8],
-    scratch: &mut [u8],
-    magnitudes: &mut [i32],
-) -> AdaptiveFed
-    ensures { (result.number ≡ hsv_refusal (length hue.now) (length saturation.now) (length value.now) width height stride) × Called (adaptive_called d (hsv hue.now saturation.now value.now width height stride ts (memory store.old scratch.old magnitudes.old))) result.answer result.answer.number (memory store.old scratch.old magnitudes.old) (memory store.new scratch.new magnitudes.new) × FromSums d.options.weights result.answer.score result.answer.components result.answer.sums }
-{
-    let made = HsvFrame::try_new(hue, saturation, value, width, height, stride, ts);
-    AdaptiveFed {
-        number: made.number,
-        answer: adaptive_records::process_hsv(d, made.frame, store, scratch, magnitudes),
-    }
-}
-
-// Prints a space and a number.
-fn show_number(rt: &impl Print, n: u32) -> io::Result<()> {
-    print!(rt; " {n}")
-}
-
-// Prints the four sums and the count.
-fn show_sums(rt: &impl Print, s: Sums) -> io::Result<()> {
-    show_number(rt, s.hue)?;
-    show_number(rt, s.saturation)?;
-    show_number(rt, s.luma)?;
-    show_number(rt, s.edges)?;
-    show_number(rt, s.count)
-}
-
-// Prints a stamp that is not before 0.
-fn show_cut(rt: &impl Print, ts: Timestamp) -> io::Result<()> {
-    let zero = Timestamp { micros: 0 };
-    match timestamp::duration_since(ts, zero) {
-        Since::Earlier => Ok(()),
-        Since::Micros(n) => println!(rt; "cut {n}"),
-    }
-}
-
-// Prints a frame's line, and the cut below it.
-fn show(
-    rt: &impl Print,
-    name: &[u8],
-    number: u32,
-    answer: u32,
-    sums: Sums,
-    cut: MaybeTimestamp,
-) -> io::Result<()> {
-    rt.write_all(name)?;
-    show_number(rt, number)?;
-    show_number(rt, answer)?;
-    show_sums(rt, sums)?;
-    println!(rt;)?;
-    match cut {
-        MaybeTimestamp::None => Ok(()),
-        MaybeTimestamp::At(ts) => show_cut(rt, ts),
+// Prints a frame's line, and the cut below it. The answer is the detector's state after the frame.
+fn show<D: Detect>(rt: &impl Print, name: &str, fed: Fed<D>) -> io::Result<D> {
+    let made = fed.number;
+    match fed.answer {
+        Err(refused) => {
+            println!(rt; "{name} {made} {} 0 0 0 0 0", refused.refusal.number())?;
+            Ok(refused.state)
+        }
+        Ok(step) => {
+            let s = step.sums;
+            println!(rt;
+                "{name} {made} 0 {} {} {} {} {}",
+                s.hue, s.saturation, s.luma, s.edges, s.count
+            )?;
+            if let Some(ts) = step.cut {
+                println!(rt; "cut {}", ts.micros)?;
+            }
+            Ok(step.detector)
+        }
     }
 }
 
 // A luma frame of that width and stride, and of height 3.
-fn content_luma_shown(
+fn luma_shown<D: Detect>(
     rt: &impl Print,
-    d: content::Detector,
+    name: &str,
+    d: D,
     plane: &[u8],
     width: u32,
     micros: i64,
     store: &mut [u8],
     scratch: &mut [u8],
     magnitudes: &mut [i32],
-) -> io::Result<content::Detector> {
+) -> io::Result<D> {
     let ts = Timestamp { micros };
-    let fed = content_luma(d, plane, width, 3, width, ts, store, scratch, magnitudes);
-    let a = fed.answer;
-    let sums = a.sums;
-    let cut = a.cut;
-    show(rt, b"content luma", fed.number, a.number, sums, cut)?;
-    Ok(a.detector)
+    let fed = feed_luma(d, plane, width, 3, width, ts, store, scratch, magnitudes);
+    show(rt, name, fed)
 }
 
 // A BGR frame of 2 × 2 pixels.
-fn content_bgr_shown(
+fn bgr_shown<D: Detect>(
     rt: &impl Print,
-    d: content::Detector,
+    name: &str,
+    d: D,
     pixels: &[u8],
     stride: u32,
     micros: i64,
     store: &mut [u8],
     scratch: &mut [u8],
     magnitudes: &mut [i32],
-) -> io::Result<content::Detector> {
+) -> io::Result<D> {
     let ts = Timestamp { micros };
-    let fed = content_bgr(d, pixels, 2, 2, stride, ts, store, scratch, magnitudes);
-    let a = fed.answer;
-    let sums = a.sums;
-    let cut = a.cut;
-    show(rt, b"content bgr", fed.number, a.number, sums, cut)?;
-    Ok(a.detector)
+    let fed = feed_bgr(d, pixels, 2, 2, stride, ts, store, scratch, magnitudes);
+    show(rt, name, fed)
 }
 
 // An HSV frame of 3 × 3 pixels.
-fn content_hsv_shown<'a>(
+fn hsv_shown<'a, D: Detect>(
     rt: &impl Print,
-    d: content::Detector,
+    name: &str,
+    d: D,
     hue: &'a [u8],
     saturation: &'a [u8],
     value: &'a [u8],
@@ -256,79 +187,22 @@ fn content_hsv_shown<'a>(
     store: &mut [u8],
     scratch: &mut [u8],
     magnitudes: &mut [i32],
-) -> io::Result<content::Detector> {
+) -> io::Result<D> {
     let ts = Timestamp { micros };
-    let fed = content_hsv(
+    let fed = feed_hsv(
         d, hue, saturation, value, 3, 3, 3, ts, store, scratch, magnitudes,
     );
-    let a = fed.answer;
-    let sums = a.sums;
-    let cut = a.cut;
-    show(rt, b"content hsv", fed.number, a.number, sums, cut)?;
-    Ok(a.detector)
+    show(rt, name, fed)
 }
 
-// A luma frame of that width and stride, and of height 3.
-fn adaptive_luma_shown(
-    rt: &impl Print,
-    d: adaptive::Detector,
-    plane: &[u8],
-    width: u32,
-    micros: i64,
-    store: &mut [u8],
-    scratch: &mut [u8],
-    magnitudes: &mut [i32],
-) -> io::Result<adaptive::Detector> {
-    let ts = Timestamp { micros };
-    let fed = adaptive_luma(d, plane, width, 3, width, ts, store, scratch, magnitudes);
-    let a = fed.answer;
-    let sums = a.sums;
-    let cut = a.cut;
-    show(rt, b"adaptive luma", fed.number, a.number, sums, cut)?;
-    Ok(a.detector)
-}
-
-// A BGR frame of 2 × 2 pixels.
-fn adaptive_bgr_shown(
-    rt: &impl Print,
-    d: adaptive::Detector,
-    pixels: &[u8],
-    stride: u32,
-    micros: i64,
-    store: &mut [u8],
-    scratch: &mut [u8],
-    magnitudes: &mut [i32],
-) -> io::Result<adaptive::Detector> {
-    let ts = Timestamp { micros };
-    let fed = adaptive_bgr(d, pixels, 2, 2, stride, ts, store, scratch, magnitudes);
-    let a = fed.answer;
-    let sums = a.sums;
-    let cut = a.cut;
-    show(rt, b"adaptive bgr", fed.number, a.number, sums, cut)?;
-    Ok(a.detector)
-}
-
-// An HSV frame of 3 × 3 pixels.
-fn adaptive_hsv_shown<'a>(
-    rt: &impl Print,
-    d: adaptive::Detector,
-    hue: &'a [u8],
-    saturation: &'a [u8],
-    value: &'a [u8],
-    micros: i64,
-    store: &mut [u8],
-    scratch: &mut [u8],
-    magnitudes: &mut [i32],
-) -> io::Result<adaptive::Detector> {
-    let ts = Timestamp { micros };
-    let fed = adaptive_hsv(
-        d, hue, saturation, value, 3, 3, 3, ts, store, scratch, magnitudes,
-    );
-    let a = fed.answer;
-    let sums = a.sums;
-    let cut = a.cut;
-    show(rt, b"adaptive hsv", fed.number, a.number, sums, cut)?;
-    Ok(a.detector)
+// The state that a settings call hands out, refused or not.
+fn state_of<D: Detect>(settled: Result<D, Refused<D>>) -> D
+    ensures { result ≡ (settled_in settled).detector }
+{
+    match settled {
+        Ok(d) => d,
+        Err(refused) => refused.state,
+    }
 }
 
 // Nine frames to the content detector, with edges on: planes of 9 bytes, and `few` of 8. `side` has an edge between its first two columns.
@@ -349,25 +223,45 @@ fn content_run<'a>(
         delta_lum: 1.0,
         delta_edges: 1.0,
     };
-    let settled = content::try_new(content::Options::new().with_weights(even));
-    let d = settled.detector;
-    let d = content_luma_shown(rt, d, dark, 3, 0, &mut store, &mut work, &mut mags)?;
-    let d = content_luma_shown(rt, d, few, 3, 400000, &mut store, &mut work, &mut mags)?;
-    let d = content_luma_shown(rt, d, side, 4097, 400000, &mut store, &mut work, &mut mags)?;
-    let d = content_luma_shown(rt, d, side, 3, 400000, &mut store, &mut work, &mut mags)?;
-    let d = content_luma_shown(rt, d, side, 3, 900000, &mut store, &mut work, &mut mags)?;
-    let d = content_hsv_shown(
-        rt, d, tint, few, lit, 1500000, &mut store, &mut work, &mut mags,
-    )?;
-    let d = content_hsv_shown(
-        rt, d, tint, side, few, 1500000, &mut store, &mut work, &mut mags,
-    )?;
-    let d = content_hsv_shown(
-        rt, d, tint, side, lit, 1500000, &mut store, &mut work, &mut mags,
-    )?;
-    content_hsv_shown(
-        rt, d, tint, lit, dark, 2000000, &mut store, &mut work, &mut mags,
-    )?;
+    let mut d = state_of(content::try_new(content::Options::new().with_weights(even)));
+    for (plane, width, micros) in [
+        (dark, 3, 0),
+        (few, 3, 400000),
+        (side, 4097, 400000),
+        (side, 3, 400000),
+        (side, 3, 900000),
+    ] {
+        d = luma_shown(
+            rt,
+            "content luma",
+            d,
+            plane,
+            width,
+            micros,
+            &mut store,
+            &mut work,
+            &mut mags,
+        )?;
+    }
+    for (saturation, value, micros) in [
+        (few, lit, 1500000),
+        (side, few, 1500000),
+        (side, lit, 1500000),
+        (lit, dark, 2000000),
+    ] {
+        d = hsv_shown(
+            rt,
+            "content hsv",
+            d,
+            tint,
+            saturation,
+            value,
+            micros,
+            &mut store,
+            &mut work,
+            &mut mags,
+        )?;
+    }
     Ok(())
 }
 
@@ -383,24 +277,28 @@ fn adaptive_run(
     let mut work = [0u8; 32];
     let mut mags = [0i32; 4];
     let row = 2 * RgbFrame::BYTES_PER_PIXEL;
-    let settled = adaptive::try_new(adaptive::Options::new().with_window_width(1));
-    let d = settled.detector;
-    let d = adaptive_bgr_shown(rt, d, black, row, 0, &mut store, &mut work, &mut mags)?;
-    let d = adaptive_bgr_shown(
-        rt,
-        d,
-        red,
-        row - 1,
-        400000,
-        &mut store,
-        &mut work,
-        &mut mags,
-    )?;
-    let d = adaptive_bgr_shown(rt, d, few, row, 400000, &mut store, &mut work, &mut mags)?;
-    let d = adaptive_bgr_shown(rt, d, black, row, 400000, &mut store, &mut work, &mut mags)?;
-    let d = adaptive_bgr_shown(rt, d, red, row, 900000, &mut store, &mut work, &mut mags)?;
-    let d = adaptive_bgr_shown(rt, d, red, row, 1500000, &mut store, &mut work, &mut mags)?;
-    adaptive_bgr_shown(rt, d, green, row, 2000000, &mut store, &mut work, &mut mags)?;
+    let mut d = state_of(adaptive::try_new(adaptive::Options::new().with_window_width(1)));
+    for (pixels, stride, micros) in [
+        (black, row, 0),
+        (red, row - 1, 400000),
+        (few, row, 400000),
+        (black, row, 400000),
+        (red, row, 900000),
+        (red, row, 1500000),
+        (green, row, 2000000),
+    ] {
+        d = bgr_shown(
+            rt,
+            "adaptive bgr",
+            d,
+            pixels,
+            stride,
+            micros,
+            &mut store,
+            &mut work,
+            &mut mags,
+        )?;
+    }
     Ok(())
 }
 
@@ -410,12 +308,25 @@ fn content_pixels_run(rt: &impl Print, black: &[u8], red: &[u8], green: &[u8]) -
     let mut work = [0u8; 32];
     let mut mags = [0i32; 4];
     let row = 2 * RgbFrame::BYTES_PER_PIXEL;
-    let settled = content::try_new(content::Options::new());
-    let d = settled.detector;
-    let d = content_bgr_shown(rt, d, red, row - 1, 0, &mut store, &mut work, &mut mags)?;
-    let d = content_bgr_shown(rt, d, black, row, 0, &mut store, &mut work, &mut mags)?;
-    let d = content_bgr_shown(rt, d, red, row, 400000, &mut store, &mut work, &mut mags)?;
-    content_bgr_shown(rt, d, green, row, 900000, &mut store, &mut work, &mut mags)?;
+    let mut d = state_of(content::try_new(content::Options::new()));
+    for (pixels, stride, micros) in [
+        (red, row - 1, 0),
+        (black, row, 0),
+        (red, row, 400000),
+        (green, row, 900000),
+    ] {
+        d = bgr_shown(
+            rt,
+            "content bgr",
+            d,
+            pixels,
+            stride,
+            micros,
+            &mut store,
+            &mut work,
+            &mut mags,
+        )?;
+    }
     Ok(())
 }
 
@@ -430,20 +341,34 @@ fn adaptive_planes_run<'a>(
     let mut store = [0u8; 36];
     let mut work = [0u8; 69];
     let mut mags = [0i32; 9];
-    let settled = adaptive::try_new(adaptive::Options::new().with_window_width(1));
-    let d = settled.detector;
-    let d = adaptive_luma_shown(rt, d, dark, 3, 0, &mut store, &mut work, &mut mags)?;
-    let d = adaptive_luma_shown(rt, d, few, 3, 400000, &mut store, &mut work, &mut mags)?;
-    let d = adaptive_luma_shown(rt, d, dark, 3, 400000, &mut store, &mut work, &mut mags)?;
-    let d = adaptive_hsv_shown(
-        rt, d, tint, lit, few, 900000, &mut store, &mut work, &mut mags,
-    )?;
-    let d = adaptive_hsv_shown(
-        rt, d, tint, lit, lit, 900000, &mut store, &mut work, &mut mags,
-    )?;
-    adaptive_hsv_shown(
-        rt, d, tint, lit, lit, 1500000, &mut store, &mut work, &mut mags,
-    )?;
+    let mut d = state_of(adaptive::try_new(adaptive::Options::new().with_window_width(1)));
+    for (plane, micros) in [(dark, 0), (few, 400000), (dark, 400000)] {
+        d = luma_shown(
+            rt,
+            "adaptive luma",
+            d,
+            plane,
+            3,
+            micros,
+            &mut store,
+            &mut work,
+            &mut mags,
+        )?;
+    }
+    for (value, micros) in [(few, 900000), (lit, 900000), (lit, 1500000)] {
+        d = hsv_shown(
+            rt,
+            "adaptive hsv",
+            d,
+            tint,
+            lit,
+            value,
+            micros,
+            &mut store,
+            &mut work,
+            &mut mags,
+        )?;
+    }
     Ok(())
 }
 

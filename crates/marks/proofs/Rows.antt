@@ -6,7 +6,7 @@ use Prim.Native.Nat.{ℕ, zero, suc, ◌+◌, ◌-◌, ◌*◌, ◌/◌, ◌≤�
 use native.Mathlib.Numerals.{add-one}
 use native.Mathlib.Omega.{arith}
 use lib.Dec.{eqb}
-use lib.ListN.{length, drop, length-append}
+use lib.ListN.{length, length-append}
 use Rattle.decimal.specs.Placed.{placed}
 use Rattle.decimal.specs.Writing.{decimal}
 use Rattle.decimal.proofs.Lengths.{decimal-length, digits-short}
@@ -52,15 +52,14 @@ pub rows_next : (m : ℕ) → rows_text (m + 1) ≡ rows_text m ++ row_text m
 unfolding rows_text
 rows_next m = rw (add-one m) refl
 
+-- the last row
+pub rows_last : (m : ℕ) → m ≡ 255 → rows_text 256 ≡ rows_text m ++ row_text m
+rows_last m e = rw e (rows_next 255)
+
 pub rows-length : (m : ℕ) → m ≤ 256 → length (rows_text m) ≤ 12 * m
 unfolding rows_text
 rows-length zero h = omega arith
 rows-length (suc m) h = omega (arith, length-append (rows_text m) (row_text m), row-length m (omega arith), rows-length m (omega arith))
-
--- the header at the start
-pub header-wrote : (out : List ℕ) {mid : List ℕ} {a : ℕ} → mid ≡ table_header ++ drop 16 out → a ≡ 16 → Wrote out 0 table_header mid a
-unfolding placed
-header-wrote out e k = (e, k)
 
 -- the header, and the rows after it
 pub table-wrote : (out : List ℕ) {mid after : List ℕ} {a r : ℕ} → Wrote out 0 table_header mid a → Wrote mid a (rows_text 256) after r

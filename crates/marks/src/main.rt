@@ -16,7 +16,7 @@ fn put_cell(out: &mut [u8], at: usize, n: u8, end: u8) -> usize
     requires { at + 21 ≤ length out.old }
     ensures { (out.new ≡ placed out.old at (decimal n ++ (end ∷ []))) × (result ≡ at + length (decimal n ++ (end ∷ []))) }
 {
-    let e = decimal::put_number(out, at, n as u64);
+    let e = decimal::put_number(out, at, u64::from(n));
     decimal::put_byte(out, e, end)
 }
 
@@ -38,10 +38,8 @@ fn put_rows(out: &mut [u8], at: usize) -> usize
     ensures { (out.new ≡ placed out.old at (rows_text 256)) × (result ≡ at + length (rows_text 256)) }
 {
     let mut e = at;
-    let mut m: u16 = 0;
-    while m < 256 {
-        e = put_row(out, e, m as u8);
-        m += 1;
+    for m in 0..=u8::MAX {
+        e = put_row(out, e, m);
     }
     e
 }
@@ -51,9 +49,7 @@ fn put_table(out: &mut [u8]) -> usize
     requires { 4096 ≤ length out.old }
     ensures { (out.new ≡ placed out.old 0 table_text) × (result ≡ length table_text) }
 {
-    let header = b"median,low,high\n";
-    let e = header.len();
-    out[..e].copy_from_slice(header);
+    let e = decimal::put_text(out, 0, b"median,low,high\n");
     put_rows(out, e)
 }
 

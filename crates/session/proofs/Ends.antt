@@ -4,12 +4,13 @@ use mathlib.Core.List.{List}
 use Prim.Native.Nat.{ℕ, ◌+◌, ◌-◌}
 use native.Mathlib.Omega.{arith}
 use lib.ListN.{length}
-use Rattle.content.specs.declared.Answer.{Answer}
 use Rattle.decimal.specs.Placed.{placed}
 use Rattle.session.specs.declared.Session.{Session}
 use Rattle.session.specs.Output.{line_call, after, next_number, line_text}
 use Rattle.session.specs.Sessions.{place_of}
 use Rattle.session.specs.Promises.{Ends}
+use Rattle.content.specs.State.{Answer}
+use Rattle.content.specs.declared.Detector.{Detector}
 
 minus-start : (at n e : ℕ) → e ≡ at + n → e - at ≡ n
 minus-start at n e h = omega arith
@@ -18,12 +19,13 @@ pub line-ends : (s : Session) (store line out : List ℕ) (at : ℕ) (a : Answer
     → n ≡ next_number s.number
     → (out' : List ℕ) → out' ≡ placed out at (line_text s.number a)
     → (e : ℕ) → e ≡ at + length (line_text s.number a)
-    → Ends (place_of s store) line out at (record { detector = a.detector; store = store'; number = n }) out' 0 (e - at)
+    → (d : Detector) → d ≡ a.detector
+    → Ends (place_of s store) line out at (record { detector = d; store = store'; number = n }) out' 0 (e - at)
 unfolding after
-line-ends s store line out at a p q m out' t e u =
+line-ends s store line out at a p q m out' t e u d v =
     record {
       none = refl;
-      place = rw (p, q, m);
+      place = rw (v, p, q, m);
       text = rw (← p) t;
       size = rw (← p) (minus-start at (length (line_text s.number a)) e u);
     }

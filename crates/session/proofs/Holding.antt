@@ -1,71 +1,76 @@
 -- The bytes of a line joined to those that are held, up to the first line feed.
 use mathlib.Core.Path.{◌≡◌, refl, sym, ap, ◌∙◌}
-use mathlib.Core.Bool.{Bool, true, false}
-use mathlib.Core.List.{List, [], ◌∷◌, ◌++◌}
-use Prim.Native.Nat.{ℕ, suc, ◌+◌, ◌≤◌, ◌<◌}
-use native.Mathlib.Numerals.{add-one}
+use mathlib.Core.Bool.{Bool, true, false, cond}
+use mathlib.Core.List.{List, [], ◌∷◌, ◌++◌, append_assoc, append-nil}
+use Prim.Native.Nat.{ℕ, suc, ◌+◌, ◌-◌, ◌≤◌, min}
 use native.Mathlib.Omega.{arith}
 use lib.Dec.{eqb}
-use lib.ListN.{length, get_or, take, drop, set, drop_of_length-le}
-use lib.Seq.{length-take-le, take-suc, take-suc-set, drop-cons}
-use borrow.Author.Tests.{lt-ltb, le-ltb, eq-eqb, ne_eqb}
-use Rattle.session.specs.Feeding.{State, hold, next, text_of, fed, fed_text, held_after, before_feed}
+use lib.ListN.{length, take}
+use lib.Seq.{length-take-le, take_all, take-take, take-append-add}
+use borrow.Rule.Slice.PartMut.{put_mid}
+use Rattle.std.specs.List.{position, position_or_len}
+use Rattle.std.specs.Option.{unwrap_or}
+use Rattle.std.specs.Prelude.{nat_lt}
+use Rattle.std.proofs.Common.{Option, Some, None}
+use Rattle.std.proofs.lemmas.List.{take_min}
+use Rattle.std.proofs.lemmas.Grind.{common_steps}
+use Rattle.std.proofs.lemmas.List.Recursion.{is_position_or_len}
+use Rattle.std.proofs.lemmas.Slice.{take-put_mid}
+use Rattle.session.specs.Feeding.{State, next, text_of, fed, fed_text, held_after, before_feed}
+use Rattle.session.proofs.LongLines.{hold-held}
 
--- one byte more: it is stored, or the line is full
-pub keep-more : (line : List ℕ) (n b : ℕ) → length line ≡ 8193 → n < 8193 → take (n + 1) (set line n b) ≡ hold (take n line) b
-keep-more line n b size h =
-    let size-n = length-take-le n line (omega arith) in
-    rw (add-one n, take-suc-set line n b (omega arith), size-n, lt-ltb n 8193 h)
+-- a line feed
+abbrev pub is_feed : ℕ → Bool
+is_feed b = eqb b 10
 
-pub keep-full : (line : List ℕ) (n b : ℕ) → length line ≡ 8193 → n ≤ 8193 → 8193 ≤ n → take n line ≡ hold (take n line) b
-keep-full line n b size h full = rw (length-take-le n line (omega arith), le-ltb n 8193 full)
+before-within-byte : (b : ℕ) (bs : List ℕ) (t : Bool) → eqb b 10 ≡ t → before_feed bs ≤ length bs → before_feed (b ∷ bs) ≤ suc (length bs)
+unfolding before_feed
+before-within-byte b bs true e h = rw e (omega arith)
+before-within-byte b bs false e h = rw e (omega arith)
 
-after_more : (held bs : List ℕ) (b : ℕ) → held_after held (bs ++ (b ∷ [])) ≡ hold (held_after held bs) b
+pub before-within : (bs : List ℕ) → before_feed bs ≤ length bs
+unfolding before_feed
+before-within [] = omega arith
+before-within (b ∷ bs) = before-within-byte b bs (eqb b 10) refl (before-within bs)
+
+-- how many bytes stand before the first line feed: its place, or their number where there is none
+before-place : (chunk : List ℕ) → before_feed chunk ≡ position_or_len is_feed chunk
+unfolding before_feed
+before-place = is_position_or_len before_feed is_feed refl (λ b bs. ap (λ (n : ℕ). cond (is_feed b) 0 n) (next-place (before_feed bs)))
+  where
+    next-place : (n : ℕ) → suc n ≡ 1 + n
+    next-place n = omega arith
+
+found-by : (k n : ℕ) → k ≤ n → unwrap_or (cond (nat_lt k n) (Some k) None) n ≡ k
+found-by k n h = grind (arith, common_steps)
+
+pub before-found : (chunk : List ℕ) (r : Option ℕ) → r ≡ position is_feed chunk → unwrap_or r (length chunk) ≡ before_feed chunk
+before-found chunk r e =
+    ap (λ (o : Option ℕ). unwrap_or o (length chunk)) e
+    ∙ found-by (position_or_len is_feed chunk) (length chunk) (rw (← before-place chunk) (before-within chunk))
+    ∙ sym (before-place chunk)
+
+-- bytes join a line of which the first 8,193 bytes are held
+after-bytes : (line bs : List ℕ) → held_after (take 8193 line) bs ≡ take 8193 (line ++ bs)
 unfolding held_after
-after_more held [] b = refl
-after_more held (c ∷ bs) b = after_more (hold held c) bs b
+after-bytes line [] = rw (append-nil line) refl
+after-bytes line (b ∷ bs) = rw (hold-held line b) (after-bytes (line ++ (b ∷ [])) bs ∙ ap (take 8193) (append_assoc line (b ∷ []) bs))
 
-before-next : (chunk : List ℕ) (i : ℕ) → i < length chunk → (get_or chunk i 0 ≡ 10 → ⊥) → before_feed (drop i chunk) ≡ suc (before_feed (drop (suc i) chunk))
-unfolding before_feed
-before-next chunk i h no-feed = rw (drop-cons chunk i 0 h, ne_eqb (get_or chunk i 0) 10 no-feed)
-
-before-feed : (chunk : List ℕ) (i : ℕ) → i < length chunk → get_or chunk i 0 ≡ 10 → before_feed (drop i chunk) ≡ 0
-unfolding before_feed
-before-feed chunk i h feed = rw (drop-cons chunk i 0 h, eq-eqb (get_or chunk i 0) 10 feed)
-
-before-end : (chunk : List ℕ) (i : ℕ) → length chunk ≤ i → before_feed (drop i chunk) ≡ 0
-unfolding before_feed
-before-end chunk i h = rw (drop_of_length-le chunk h)
-
--- what is known after i bytes of a chunk
-pub record Holding (held chunk line : List ℕ) (n i : ℕ) : Type 0 where
-  pub within : i ≤ length chunk
-  pub small : n ≤ 8193
-  pub same : take n line ≡ held_after held (take i chunk)
-  pub first : before_feed chunk ≡ i + before_feed (drop i chunk)
-
-pub holding-none : (chunk line : List ℕ) (n : ℕ) → n ≤ 8193 → Holding (take n line) chunk line n 0
-unfolding held_after
-holding-none chunk line n h = record { within = omega arith; small = h; same = refl; first = omega arith }
-
-module _ {held chunk line : List ℕ} {n i : ℕ} (H : Holding held chunk line n i) where
-  pub holding-more : (line' : List ℕ) (n' : ℕ) → i < length chunk → (get_or chunk i 0 ≡ 10 → ⊥) → n' ≤ 8193 → take n' line' ≡ hold (take n line) (get_or chunk i 0)
-      → Holding held chunk line' n' (i + 1)
-  holding-more line' n' h no-feed small e =
-      record {
-        within = omega arith;
-        small = small;
-        same =
-            e ∙ ap (λ (l : List ℕ). hold l (get_or chunk i 0)) H.same
-            ∙ sym (rw (add-one i, take-suc chunk i 0 h) (after_more held (take i chunk) (get_or chunk i 0)));
-        first = let s = before-next chunk i h no-feed in rw (add-one i) (omega (arith, H.first, s));
-      }
-
-  pub holding-feed : i < length chunk → get_or chunk i 0 ≡ 10 → i ≡ before_feed chunk
-  holding-feed h feed = omega (arith, H.first, before-feed chunk i h feed)
-
-  pub holding-end : length chunk ≤ i → i ≡ before_feed chunk
-  holding-end h = omega (arith, H.first, before-end chunk i h)
+pub bytes-held : (line chunk part : List ℕ) (held at n : ℕ) → length line ≡ 8193 → held ≤ 8193 → at ≤ length chunk → n ≡ min at (8193 - held) → part ≡ take n chunk
+    → take (held + n) (put_mid held (held + n - held) line part) ≡ held_after (take held line) (take at chunk)
+bytes-held line chunk part held at n size small inside count same =
+    let k = take held line in
+    let x = take at chunk in
+    let kept : length k ≡ held = length-take-le held line (omega arith) in
+    let long : length x ≡ at = length-take-le at chunk inside in
+    let length-part : length part ≡ n = rw same (length-take-le n chunk (omega arith)) in
+    let room : 8193 ≡ length k + (8193 - held) = omega arith in
+    let most : min (8193 - held) (length x) ≡ n = omega arith in
+    let all : held_after k x ≡ take 8193 (k ++ x) = ap (λ (l : List ℕ). held_after l x) (sym (take_all 8193 k (omega arith))) ∙ after-bytes k x in
+    let some : take (8193 - held) x ≡ take n chunk = sym (take_min (8193 - held) x) ∙ ap (λ (m : ℕ). take m x) most ∙ take-take n at chunk (omega arith) in
+    take-put_mid held (held + n - held) line part (held + n) (omega arith) (omega arith)
+    ∙ ap (λ (l : List ℕ). k ++ l) (same ∙ sym some)
+    ∙ sym (all ∙ ap (λ (m : ℕ). take m (k ++ x)) room ∙ take-append-add k x (8193 - held))
 
 -- bytes before the first line feed bring no text, and join the line
 fed-bytes : (s : State) (b : ℕ) (bs : List ℕ) (t : Bool) → eqb b 10 ≡ t
@@ -90,13 +95,3 @@ pub text-before : (s : State) (bs : List ℕ) → fed_text s (take (before_feed 
 unfolding fed_text before_feed
 text-before s [] = refl
 text-before s (b ∷ bs) = text-bytes s b bs (eqb b 10) refl (λ q. text-before q bs)
-
-before-within-byte : (b : ℕ) (bs : List ℕ) (t : Bool) → eqb b 10 ≡ t → before_feed bs ≤ length bs → before_feed (b ∷ bs) ≤ suc (length bs)
-unfolding before_feed
-before-within-byte b bs true e h = rw e (omega arith)
-before-within-byte b bs false e h = rw e (omega arith)
-
-pub before-within : (bs : List ℕ) → before_feed bs ≤ length bs
-unfolding before_feed
-before-within [] = omega arith
-before-within (b ∷ bs) = before-within-byte b bs (eqb b 10) refl (before-within bs)

@@ -1,5 +1,5 @@
 -- What the session's functions promise of the output (RULES 11.6, 11.7): `s` and `out` are at entry, `s'` and `out'` at exit.
-use Rattle.std.specs.Prelude.{◌≡◌, Bool, true, false, List, ℕ, ◌+◌, ◌≤◌, ◌<◌, length, take}
+use Rattle.std.specs.Prelude.{◌≡◌, Bool, true, false, List, ℕ, ◌+◌, ◌≤◌, ◌<◌, length, take, Option, None, Some}
 use Rattle.decimal.specs.Placed.{placed}
 use Rattle.session.specs.Output.{Place, start, line_call, after, line_text, lines, answers, output}
 use Rattle.session.specs.Feeding.{State, fed, fed_text, last_text}
@@ -30,6 +30,11 @@ pub record Ends (p : Place) (line out : List ℕ) (at : ℕ) (p' : Place) (out' 
   pub place : p' ≡ after p line
   pub text : out' ≡ placed out at (line_text p.number (line_call p line).answer)
   pub size : written ≡ length (line_text p.number (line_call p line).answer)
+
+-- the length that the result of a whole session tells: 0 where there was no room
+abbrev pub written_in : Option ℕ → ℕ
+written_in None = 0
+written_in (Some n) = n
 
 -- The whole session: where there was room, the output of the input is written to the start of `out`, and its length is told. 64 bytes more
 -- than the output are always room enough; of less it is left open whether there was room. Where there was none, 0 is told, and the bytes

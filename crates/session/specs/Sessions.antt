@@ -1,14 +1,18 @@
 -- The session record and its lent memory as the state that the definitions of the session speak of (RULES 11.5).
 use Rattle.std.specs.Prelude.{cond, List, [], ℕ, ◌*◌, eqb, ltb, pos, length, take, replicate}
-use Rattle.content.specs.declared.Answer.{Answer}
 use Rattle.content.specs.Options.{defaults}
-use Rattle.content.specs.State.{fresh}
+use Rattle.content.specs.State.{Answer, fresh}
 use Rattle.frame_call.specs.Call.{Outcome, luma, memory}
 use Rattle.content.specs.Step.{called}
 use Rattle.frame_line.specs.declared.FrameLine.{FrameLine}
+use Rattle.session.specs.declared.Memory.{Memory}
 use Rattle.session.specs.declared.Session.{Session}
 use Rattle.session.specs.Output.{Place, after}
 use Rattle.session.specs.Feeding.{State}
+
+-- memory for a new session: the store is lent as zeros (RULES 11.5), and so is the rest
+abbrev pub new_memory : Memory
+new_memory = record { line = replicate 8193 0; luma = replicate 1024 0; store = replicate 4096 0; scratch = replicate 9216 0; magnitudes = replicate 1024 (pos 0) }
 
 -- the session before the first byte: a content detector at default settings (RULES 11.5)
 abbrev pub new_session : Session

@@ -2,18 +2,21 @@
 // session, the line, the luma values and the store are handed back as they were left.
 #![tactic(auto)]
 
-ghost use Rattle.std.specs.Prelude.{◌≡◌, true, [], ◌∷◌, ◌++◌, ◌+◌, ◌*◌, ◌≤◌, ◌<◌, length, take, replicate};
+ghost use Rattle.std.specs.Prelude.{◌≡◌, true, [], ◌∷◌, ◌++◌, ◌+◌, ◌*◌, ◌≤◌, ◌<◌, length, take, replicate, nat_eq, is_some};
+ghost use Rattle.std.specs.List.{position};
 ghost use Rattle.decimal.specs.Placed.{placed};
 ghost use Rattle.decimal.specs.Writing.{decimal};
-ghost use Rattle.frame_line.specs.Line.{is_frame_line, fields, line_of, luma_of};
+ghost use Rattle.detector.specs.Answers.{answer_in};
 ghost use Rattle.session.specs.Output.{line_call, after, next_number, cut_text, line_text, header};
 ghost use Rattle.session.specs.Feeding.{hold, held_after, before_feed, chunk_end};
-ghost use Rattle.session.specs.Sessions.{new_session, place_of, state_of, frame_call_of, held_length};
-ghost use Rattle.session.specs.Promises.{Ends, Feeds, Filled, Finishes, Runs, IsOutput};
+ghost use Rattle.session.specs.Sessions.{new_memory, new_session, place_of, state_of, frame_call_of, held_length};
+ghost use Rattle.session.specs.Promises.{Ends, Feeds, Filled, Finishes, Runs, IsOutput, written_in};
 
-use content::{Answer, Detector};
+use content::Detector;
+use detector::Step;
 use frame_line::FrameLine;
-use timestamp::MaybeTimestamp;
+use refusal::{Refusal, Refused};
+use timestamp::Timestamp;
 
 // The bytes that are held of a line: one more than a frame line may have, so that a longer one is told.
 pub const HELD: usize = 8193;
@@ -32,8 +35,34 @@ pub const HEADER: usize = 17;
 // The room that is asked for a line's text, which has at most 53 bytes.
 pub const ROOM: usize = 64;
 
+// What a session is lent: the bytes of the current line, its luma values, and the memory of a frame call. Any content of the luma values,
+// the scratch and the magnitudes is right, before and after a call.
+#[derive(Clone, Copy, Debug, PartialEq, Eq)]
+pub struct Memory {
+    pub line: [u8; HELD],
+    pub luma: [u8; PIXELS],
+    pub store: [u8; STORE],
+    pub scratch: [u8; SCRATCH],
+    pub magnitudes: [i32; PIXELS],
+}
+
+impl Memory {
+    // Memory for a new session: all zeros.
+    pub fn new() -> Self
+        ensures { result ≡ new_memory }
+    {
+        Memory {
+            line: [0; HELD],
+            luma: [0; PIXELS],
+            store: [0; STORE],
+            scratch: [0; SCRATCH],
+            magnitudes: [0; PIXELS],
+        }
+    }
+}
+
 // What one chunk hands to the next: the detector, the number of the current line, and how many bytes of it the lent line holds.
-#[derive(Clone, Copy)]
+#[derive(Clone, Copy, Debug, PartialEq)]
 pub struct Session {
     pub detector: Detector,
     pub number: u64,
@@ -41,17 +70,10 @@ pub struct Session {
 }
 
 // What feeding brings: the session, how many bytes of the chunk were taken, and how many bytes of text were written.
-#[derive(Clone, Copy)]
+#[derive(Clone, Copy, Debug, PartialEq)]
 pub struct Fed {
     pub session: Session,
     pub taken: usize,
-    pub written: usize,
-}
-
-// What a whole session brings: whether `out` had room for the output, and the output's length, 0 where there was no room.
-#[derive(Clone, Copy)]
-pub struct Whole {
-    pub ok: bool,
     pub written: usize,
 }
 
@@ -66,10 +88,12 @@ struct Held {
 pub fn new() -> Session
     ensures { result ≡ new_session }
 {
-    let d = content::try_new(content::Options::new());
-    let detector = d.detector;
+    let detector = match content::try_new(content::Options::new()) {
+        Ok(detector) => detector,
+        Err(refused) => refused.state,
+    };
     Session {
-        detector: detector,
+        detector,
         number: 0,
         length: 0,
     }
@@ -82,64 +106,59 @@ pub fn header() -> [u8; HEADER]
     *b"frame,answer,cut\n"
 }
 
-// The luma call of a frame line whose values are the first of `luma`. Any content of the scratch and of the magnitudes is right, before
-// and after.
+// The luma call of a frame line whose values are the first of those lent.
 fn call_frame(
     s: Session,
     f: FrameLine,
-    luma: &[u8],
-    store: &mut [u8; STORE],
-    scratch: &mut [u8; SCRATCH],
-    magnitudes: &mut [i32; PIXELS],
-) -> Answer
-    requires { (f.width * f.height ≤ 1024) × (length luma.now ≡ 1024) }
-    ensures value { result ≡ (frame_call_of s f luma.now store.old).answer }
-    ensures store_after { store.new ≡ (frame_call_of s f luma.now store.old).store }
+    memory: &mut Memory,
+) -> Result<Step<Detector>, Refused<Detector>>
+    requires { f.width * f.height ≤ 1024 }
+    ensures value { answer_in result ≡ (frame_call_of s f memory.old.luma memory.old.store).answer }
+    ensures store_after { memory.new.store ≡ (frame_call_of s f memory.old.luma memory.old.store).store }
+    ensures line_stays { memory.new.line ≡ memory.old.line }
 {
-    let d = s.detector;
-    let stamp = f.stamp;
     let n = (f.width as usize) * (f.height as usize);
-    content_frames::process_luma(
-        d,
-        &luma[..n],
+    detector::process_luma(
+        s.detector,
+        &memory.luma[..n],
         f.width,
         f.height,
         f.width,
-        stamp,
-        store,
-        scratch,
-        magnitudes,
+        f.stamp,
+        &mut memory.store,
+        &mut memory.scratch,
+        &mut memory.magnitudes,
     )
 }
 
-// What a line brings. Any content of the luma values, the scratch and the magnitudes is right, before and after.
+// What the first `held` bytes of the line lent bring as a line.
 fn call_line(
     s: Session,
-    line: &[u8],
-    luma: &mut [u8; PIXELS],
-    store: &mut [u8; STORE],
-    scratch: &mut [u8; SCRATCH],
-    magnitudes: &mut [i32; PIXELS],
-) -> Answer
-    ensures value { result ≡ (line_call (place_of s store.old) line.now).answer }
-    ensures store_after { store.new ≡ (line_call (place_of s store.old) line.now).store }
+    held: usize,
+    memory: &mut Memory,
+) -> Result<Step<Detector>, Refused<Detector>>
+    requires { held ≤ 8193 }
+    ensures value { answer_in result ≡ (line_call (place_of s memory.old.store) (take held memory.old.line)).answer }
+    ensures store_after { memory.new.store ≡ (line_call (place_of s memory.old.store) (take held memory.old.line)).store }
+    ensures line_stays { memory.new.line ≡ memory.old.line }
 {
-    let f = frame_line::read_line(line, luma);
-    if f.is_frame {
-        return call_frame(s, f, luma, store, scratch, magnitudes);
+    match frame_line::read_line(&memory.line[..held], &mut memory.luma) {
+        Some(f) => call_frame(s, f, memory),
+        None => Err(Refused {
+            refusal: Refusal::NotAFrameLine,
+            state: s.detector,
+        }),
     }
-    let d = s.detector;
-    content::without_score(d, 16)
 }
 
 // The cut or `-`.
-fn put_cut(out: &mut [u8], at: usize, cut: MaybeTimestamp) -> usize
+fn put_cut(out: &mut [u8], at: usize, cut: Option<Timestamp>) -> usize
     requires { at + 21 ≤ length out.old }
     ensures { (out.new ≡ placed out.old at (cut_text cut)) × (result ≡ at + length (cut_text cut)) }
 {
     match cut {
-        MaybeTimestamp::None => decimal::put_byte(out, at, b'-'),
-        MaybeTimestamp::At(t) => decimal::put_stamp(out, at, t),
+        None => decimal::put_byte(out, at, b'-'),
+        Some(t) => decimal::put_stamp(out, at, t),
     }
 }
 
@@ -152,15 +171,47 @@ fn put_field(out: &mut [u8], at: usize, n: u64) -> usize
     decimal::put_byte(out, e, b',')
 }
 
-// The text of a line: number, answer, cut or `-`.
-fn put_line(out: &mut [u8], at: usize, number: u64, a: Answer) -> usize
-    requires { at + 64 ≤ length out.old }
-    ensures { (out.new ≡ placed out.old at (line_text number a)) × (result ≡ at + length (line_text number a)) }
+// What the text of a line and the next line need of an answer.
+#[derive(Clone, Copy)]
+struct Shown {
+    answer: u32,
+    detector: Detector,
+    cut: Option<Timestamp>,
+}
+
+fn shown_by(answer: Result<Step<Detector>, Refused<Detector>>) -> Shown
+    ensures answer { result.answer ≡ (answer_in answer).number }
+    ensures detector { result.detector ≡ (answer_in answer).detector }
+    ensures cut { result.cut ≡ (answer_in answer).cut }
 {
-    let cut = a.cut;
+    match answer {
+        Ok(step) => Shown {
+            answer: 0,
+            detector: step.detector,
+            cut: step.cut,
+        },
+        Err(refused) => Shown {
+            answer: refused.refusal.number(),
+            detector: refused.state,
+            cut: None,
+        },
+    }
+}
+
+// The text of a line: number, answer, cut or `-`.
+fn put_line(
+    out: &mut [u8],
+    at: usize,
+    number: u64,
+    answer: Result<Step<Detector>, Refused<Detector>>,
+) -> usize
+    requires { at + 64 ≤ length out.old }
+    ensures { (out.new ≡ placed out.old at (line_text number (answer_in answer))) × (result ≡ at + length (line_text number (answer_in answer))) }
+{
+    let shown = shown_by(answer);
     let p = put_field(out, at, number);
-    let q = put_field(out, p, a.number as u64);
-    let e = put_cut(out, q, cut);
+    let q = put_field(out, p, shown.answer as u64);
+    let e = put_cut(out, q, shown.cut);
     decimal::put_byte(out, e, b'\n')
 }
 
@@ -168,170 +219,98 @@ fn put_line(out: &mut [u8], at: usize, number: u64, a: Answer) -> usize
 fn next_number(n: u64) -> u64
     ensures { result ≡ next_number n }
 {
-    if n < u64::MAX {
-        return n + 1;
-    }
-    n
+    n.saturating_add(1)
 }
 
 // The end of a line, of which the first `held` bytes of `line` are held: its text goes to `out` at place `at`.
-fn end_line(
-    s: Session,
-    line: &[u8],
-    held: usize,
-    luma: &mut [u8; PIXELS],
-    store: &mut [u8; STORE],
-    scratch: &mut [u8; SCRATCH],
-    magnitudes: &mut [i32; PIXELS],
-    out: &mut [u8],
-    at: usize,
-) -> Fed
-    requires { (held ≤ length line.now) × (at + 64 ≤ length out.old) }
-    ensures { Ends (place_of s store.old) (take held line.now) out.old at (place_of result.session store.new) out.new result.session.length result.written }
+fn end_line(s: Session, held: usize, memory: &mut Memory, out: &mut [u8], at: usize) -> Fed
+    requires { (held ≤ 8193) × (at + 64 ≤ length out.old) }
+    ensures line_stays { memory.new.line ≡ memory.old.line }
+    ensures ends { Ends (place_of s memory.old.store) (take held memory.old.line) out.old at (place_of result.session memory.new.store) out.new result.session.length result.written }
 {
-    let a = call_line(s, &line[..held], luma, store, scratch, magnitudes);
+    let a = call_line(s, held, memory);
     let e = put_line(out, at, s.number, a);
-    let d = a.detector;
-    let n = next_number(s.number);
-    let next = Session {
-        detector: d,
-        number: n,
-        length: 0,
-    };
+    let shown = shown_by(a);
     Fed {
-        session: next,
+        session: Session {
+            detector: shown.detector,
+            number: next_number(s.number),
+            length: 0,
+        },
         taken: 0,
         written: e - at,
     }
 }
 
-// One byte more of a line: of a line that is too long only the first 8,193 bytes are held. The answer is how many are held; any bytes of
-// `line` from there on are right.
-fn keep(line: &mut [u8], n: usize, b: u8) -> usize
-    requires { (length line.old ≡ 8193) × (n ≤ 8193) }
-    ensures { (result ≤ 8193) × (take result line.new ≡ hold (take n line.old) b) }
+// The place of the first line feed, if there is one.
+fn first_feed(chunk: &[u8]) -> Option<usize>
+    ensures { result ≡ position (λ b. nat_eq b 10) chunk.now }
 {
-    if n < HELD {
-        line[n] = b;
-        return n + 1;
-    }
-    n
+    chunk.iter().position(|b| *b == b'\n')
 }
 
-// The bytes of the chunk up to its first line feed, or all of them, join the line. Any bytes of `line` from the answer's `length` on are
-// right.
+// The bytes of the chunk up to its first line feed, or all of them, join the line: of a line that is too long only the first 8,193 bytes
+// are held. Any bytes of `line` from the answer's `length` on are right.
 fn hold_bytes(line: &mut [u8], held: usize, chunk: &[u8]) -> Held
     requires { (length line.old ≡ 8193) × (held ≤ 8193) }
     ensures { (result.length ≤ 8193) × (result.at ≡ before_feed chunk.now) × (take result.length line.new ≡ held_after (take held line.old) (take result.at chunk.now)) }
 {
-    let mut n = held;
-    let mut i = 0;
-    while i < chunk.len() {
-        let b = chunk[i];
-        if b == b'\n' {
-            return Held { length: n, at: i };
-        }
-        n = keep(line, n, b);
-        i += 1;
+    let at = first_feed(chunk).unwrap_or(chunk.len());
+    let n = at.min(HELD - held);
+    line[held..held + n].copy_from_slice(&chunk[..n]);
+    Held {
+        length: held + n,
+        at,
     }
-    Held { length: n, at: i }
 }
 
 // The length that any record stands for.
 fn held_length(told: usize) -> usize
     ensures { result ≡ held_length told }
 {
-    if told < HELD {
-        return told;
-    }
-    HELD
+    told.min(HELD)
 }
 
 // The bytes of the chunk up to its first line feed and that, or all of them.
-fn feed_line(
-    s: Session,
-    chunk: &[u8],
-    line: &mut [u8],
-    luma: &mut [u8; PIXELS],
-    store: &mut [u8; STORE],
-    scratch: &mut [u8; SCRATCH],
-    magnitudes: &mut [i32; PIXELS],
-    out: &mut [u8],
-    at: usize,
-) -> Fed
-    requires { (length line.old ≡ 8193) × (0 < length chunk.now) × (at + 64 ≤ length out.old) }
-    ensures { (0 < result.taken) × (result.written ≤ 64) × Feeds (state_of s line.old store.old) chunk.now out.old at (state_of result.session line.new store.new) out.new result.taken result.written }
+fn feed_line(s: Session, chunk: &[u8], memory: &mut Memory, out: &mut [u8], at: usize) -> Fed
+    requires { (0 < length chunk.now) × (at + 64 ≤ length out.old) }
+    ensures { (0 < result.taken) × (result.written ≤ 64) × Feeds (state_of s memory.old.line memory.old.store) chunk.now out.old at (state_of result.session memory.new.line memory.new.store) out.new result.taken result.written }
 {
-    let detector = s.detector;
-    let h = hold_bytes(line, held_length(s.length), chunk);
+    let h = hold_bytes(&mut memory.line, held_length(s.length), chunk);
     let n = h.length;
-    let e = h.at;
-    let held = Session {
-        detector: detector,
-        number: s.number,
-        length: n,
-    };
-    if e < chunk.len() {
-        let f = end_line(held, line, n, luma, store, scratch, magnitudes, out, at);
-        let next = f.session;
+    let held = Session { length: n, ..s };
+    if h.at < chunk.len() {
+        let f = end_line(held, n, memory, out, at);
         return Fed {
-            session: next,
-            taken: e + 1,
-            written: f.written,
+            taken: h.at + 1,
+            ..f
         };
     }
     Fed {
         session: held,
-        taken: e,
+        taken: h.at,
         written: 0,
     }
 }
 
 // Takes the chunk, or as much of it as `out` has room for the text of, from place `at` on.
-fn feed_at(
-    s: Session,
-    chunk: &[u8],
-    line: &mut [u8; HELD],
-    luma: &mut [u8; PIXELS],
-    store: &mut [u8; STORE],
-    scratch: &mut [u8; SCRATCH],
-    magnitudes: &mut [i32; PIXELS],
-    out: &mut [u8],
-    at: usize,
-) -> Fed
+fn feed_at(s: Session, chunk: &[u8], memory: &mut Memory, out: &mut [u8], at: usize) -> Fed
     requires { at ≤ length out.old }
-    ensures feeds { Feeds (state_of s line.old store.old) chunk.now out.old at (state_of result.session line.new store.new) out.new result.taken result.written }
+    ensures feeds { Feeds (state_of s memory.old.line memory.old.store) chunk.now out.old at (state_of result.session memory.new.line memory.new.store) out.new result.taken result.written }
     ensures filled { Filled chunk.now out.old at result.taken result.written }
 {
-    let mut state = s;
+    let mut session = s;
     let mut a = 0;
     let mut w = 0;
-    while a < chunk.len() {
-        if out.len() - (at + w) < ROOM {
-            return Fed {
-                session: state,
-                taken: a,
-                written: w,
-            };
-        }
-        let f = feed_line(
-            state,
-            &chunk[a..],
-            line,
-            luma,
-            store,
-            scratch,
-            magnitudes,
-            out,
-            at + w,
-        );
-        let next = f.session;
-        state = next;
+    // Kept: no `for` fits, since a turn takes as many bytes as the line has.
+    while a < chunk.len() && out.len() - (at + w) >= ROOM {
+        let f = feed_line(session, &chunk[a..], memory, out, at + w);
+        session = f.session;
         a += f.taken;
         w += f.written;
     }
     Fed {
-        session: state,
+        session,
         taken: a,
         written: w,
     }
@@ -341,35 +320,18 @@ fn feed_at(
 // left only where fewer than 64 bytes of `out` are; how many more are taken then is left open, and of an `out` under 64 bytes it may be
 // that nothing is taken. Any content of the luma values, the scratch and the magnitudes is right, before and after, and so are any bytes
 // of `line` from the session's `length` on.
-pub fn feed(
-    s: Session,
-    chunk: &[u8],
-    line: &mut [u8; HELD],
-    luma: &mut [u8; PIXELS],
-    store: &mut [u8; STORE],
-    scratch: &mut [u8; SCRATCH],
-    magnitudes: &mut [i32; PIXELS],
-    out: &mut [u8],
-) -> Fed
-    ensures feeds { Feeds (state_of s line.old store.old) chunk.now out.old 0 (state_of result.session line.new store.new) out.new result.taken result.written }
+pub fn feed(s: Session, chunk: &[u8], memory: &mut Memory, out: &mut [u8]) -> Fed
+    ensures feeds { Feeds (state_of s memory.old.line memory.old.store) chunk.now out.old 0 (state_of result.session memory.new.line memory.new.store) out.new result.taken result.written }
     ensures filled { Filled chunk.now out.old 0 result.taken result.written }
 {
-    feed_at(s, chunk, line, luma, store, scratch, magnitudes, out, 0)
+    feed_at(s, chunk, memory, out, 0)
 }
 
 // The end of the input: the text of the line that no line feed ended, if there is one, to `out` at place `at`.
-fn finish_at(
-    s: Session,
-    line: &[u8],
-    luma: &mut [u8; PIXELS],
-    store: &mut [u8; STORE],
-    scratch: &mut [u8; SCRATCH],
-    magnitudes: &mut [i32; PIXELS],
-    out: &mut [u8],
-    at: usize,
-) -> Fed
-    requires { (length line.now ≡ 8193) × (at + 64 ≤ length out.old) }
-    ensures { Finishes (state_of s line.now store.old) out.old at (state_of result.session line.now store.new) out.new result.taken result.written }
+fn finish_at(s: Session, memory: &mut Memory, out: &mut [u8], at: usize) -> Fed
+    requires { at + 64 ≤ length out.old }
+    ensures line_stays { memory.new.line ≡ memory.old.line }
+    ensures finishes { Finishes (state_of s memory.old.line memory.old.store) out.old at (state_of result.session memory.new.line memory.new.store) out.new result.taken result.written }
 {
     let n = held_length(s.length);
     if n == 0 {
@@ -379,29 +341,17 @@ fn finish_at(
             written: 0,
         };
     }
-    let f = end_line(s, line, n, luma, store, scratch, magnitudes, out, at);
-    let next = f.session;
-    Fed {
-        session: next,
-        taken: 0,
-        written: f.written,
-    }
+    let f = end_line(s, n, memory, out, at);
+    Fed { taken: 0, ..f }
 }
 
 // The end of the input: the text of the line that no line feed ended, if there is one. Any content of the luma values, the scratch and the
 // magnitudes is right, before and after, and so are any bytes of `line` from the session's `length` on.
-pub fn finish(
-    s: Session,
-    line: &[u8; HELD],
-    luma: &mut [u8; PIXELS],
-    store: &mut [u8; STORE],
-    scratch: &mut [u8; SCRATCH],
-    magnitudes: &mut [i32; PIXELS],
-    out: &mut [u8; ROOM],
-) -> Fed
-    ensures { Finishes (state_of s line.now store.old) out.old 0 (state_of result.session line.now store.new) out.new result.taken result.written }
+pub fn finish(s: Session, memory: &mut Memory, out: &mut [u8; ROOM]) -> Fed
+    ensures line_stays { memory.new.line ≡ memory.old.line }
+    ensures finishes { Finishes (state_of s memory.old.line memory.old.store) out.old 0 (state_of result.session memory.new.line memory.new.store) out.new result.taken result.written }
 {
-    finish_at(s, line, luma, store, scratch, magnitudes, out, 0)
+    finish_at(s, memory, out, 0)
 }
 
 // The end of the chunk of `size` bytes that starts at place a of n bytes; of a size of 0, their end.
@@ -410,13 +360,7 @@ fn chunk_end(a: usize, size: usize, n: usize) -> usize
     ensures value { result ≡ chunk_end a size n }
     ensures lower_bound { (a < result) × (result ≤ n) }
 {
-    if size == 0 {
-        return n;
-    }
-    if size < n - a {
-        return a + size;
-    }
-    n
+    if size == 0 { n } else { a + size.min(n - a) }
 }
 
 // The input in chunks of `size` bytes, the last one shorter: `feed_at` promises the same of one chunk.
@@ -424,40 +368,26 @@ fn feed_chunks(
     s: Session,
     input: &[u8],
     size: usize,
-    line: &mut [u8; HELD],
-    luma: &mut [u8; PIXELS],
-    store: &mut [u8; STORE],
-    scratch: &mut [u8; SCRATCH],
-    magnitudes: &mut [i32; PIXELS],
+    memory: &mut Memory,
     out: &mut [u8],
     at: usize,
 ) -> Fed
     requires { at ≤ length out.old }
-    ensures feeds { Feeds (state_of s line.old store.old) input.now out.old at (state_of result.session line.new store.new) out.new result.taken result.written }
+    ensures feeds { Feeds (state_of s memory.old.line memory.old.store) input.now out.old at (state_of result.session memory.new.line memory.new.store) out.new result.taken result.written }
     ensures filled { Filled input.now out.old at result.taken result.written }
 {
-    let mut state = s;
+    let mut session = s;
     let mut a = 0;
     let mut w = 0;
+    // Kept: std's `chunks` refuses a size of 0, and `chunk_end` says what each size means.
     while a < input.len() {
         let e = chunk_end(a, size, input.len());
-        let f = feed_at(
-            state,
-            &input[a..e],
-            line,
-            luma,
-            store,
-            scratch,
-            magnitudes,
-            out,
-            at + w,
-        );
-        let next = f.session;
-        state = next;
+        let f = feed_at(session, &input[a..e], memory, out, at + w);
+        session = f.session;
         w += f.written;
         if f.taken < e - a {
             return Fed {
-                session: state,
+                session,
                 taken: a + f.taken,
                 written: w,
             };
@@ -465,96 +395,35 @@ fn feed_chunks(
         a = e;
     }
     Fed {
-        session: state,
+        session,
         taken: a,
         written: w,
     }
 }
 
-// Puts a text at the start of out.
-fn put_text(out: &mut [u8], text: &[u8])
-    requires { length text.now ≤ length out.old }
-    ensures { out.new ≡ placed out.old 0 text.now }
-{
-    let mut i = 0;
-    while i < text.len() {
-        i = decimal::put_byte(out, i, text[i]);
-    }
-}
-
 // The output after the header: the store is lent as zeros.
-fn run_lines(
-    input: &[u8],
-    size: usize,
-    line: &mut [u8; HELD],
-    luma: &mut [u8; PIXELS],
-    store: &mut [u8; STORE],
-    scratch: &mut [u8; SCRATCH],
-    magnitudes: &mut [i32; PIXELS],
-    out: &mut [u8],
-) -> Whole
-    requires { (store.old ≡ replicate 4096 0) × (17 ≤ length out.old) }
-    ensures { Runs input.now out.old out.new result.ok result.written }
+fn run_lines(input: &[u8], size: usize, memory: &mut Memory, out: &mut [u8]) -> Option<usize>
+    requires { (memory.old.store ≡ replicate 4096 0) × (17 ≤ length out.old) }
+    ensures { Runs input.now out.old out.new (is_some result) (written_in result) }
 {
-    let f = feed_chunks(
-        new(),
-        input,
-        size,
-        line,
-        luma,
-        store,
-        scratch,
-        magnitudes,
-        out,
-        HEADER,
-    );
+    let f = feed_chunks(new(), input, size, memory, out, HEADER);
     let e = HEADER + f.written;
-    if f.taken < input.len() {
-        return Whole {
-            ok: false,
-            written: 0,
-        };
+    if f.taken < input.len() || out.len() - e < ROOM {
+        return None;
     }
-    if out.len() - e < ROOM {
-        return Whole {
-            ok: false,
-            written: 0,
-        };
-    }
-    let last = f.session;
-    let g = finish_at(last, line, luma, store, scratch, magnitudes, out, e);
-    Whole {
-        ok: true,
-        written: e + g.written,
-    }
+    let g = finish_at(f.session, memory, out, e);
+    Some(e + g.written)
 }
 
-// The whole session: the output of the input, which is fed in chunks of `size` bytes (0: all of it at once). 64 bytes more than the output
-// are always room enough. Of a shorter `out` it is left open whether it has room: where `ok` is false, `written` is 0, and of the bytes of
-// `out` nothing is promised.
-pub fn run(input: &[u8], size: usize, out: &mut [u8]) -> Whole
-    ensures { IsOutput input.now out.old out.new result.ok result.written }
+// The whole session: the output of the input, which is fed in chunks of `size` bytes (0: all of it at once). The answer is the output's
+// length, or none where `out` has no room. 64 bytes more than the output are always room enough. Of a shorter `out` it is left open whether
+// it has room: where there is none, nothing is promised of the bytes of `out`.
+pub fn run(input: &[u8], size: usize, out: &mut [u8]) -> Option<usize>
+    ensures { IsOutput input.now out.old out.new (is_some result) (written_in result) }
 {
     if out.len() < HEADER {
-        return Whole {
-            ok: false,
-            written: 0,
-        };
+        return None;
     }
-    put_text(out, &header());
-    let mut line = [0u8; HELD];
-    let mut luma = [0u8; PIXELS];
-    let mut store = [0u8; STORE];
-    let mut scratch = [0u8; SCRATCH];
-    let mut magnitudes = [0i32; PIXELS];
-    run_lines(
-        input,
-        size,
-        &mut line,
-        &mut luma,
-        &mut store,
-        &mut scratch,
-        &mut magnitudes,
-        out,
-    )
+    decimal::put_text(out, 0, &header());
+    run_lines(input, size, &mut Memory::new(), out)
 }

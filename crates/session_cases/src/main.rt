@@ -19,46 +19,26 @@ const OUTPUT: usize = 65536;
 fn start_same(a: &[u8], b: &[u8], n: usize) -> bool
     ensures { (result ≡ true → StartSame a.now b.now n) × (StartSame a.now b.now n → result ≡ true) }
 {
-    if a.len() < n {
-        return false;
-    }
-    if b.len() < n {
-        return false;
-    }
-    a[..n] == b[..n]
+    a.len() >= n && b.len() >= n && a[..n] == b[..n]
 }
 
 // Whether chunks of this size bring the same output.
 fn agrees(input: &[u8], size: usize, out: &[u8], n: usize, other: &mut [u8]) -> bool {
-    let r = session::run(input, size, other);
-    if !r.ok {
-        return false;
-    }
-    if r.written != n {
-        return false;
-    }
-    start_same(out, other, n)
+    session::run(input, size, other) == Some(n) && start_same(out, other, n)
 }
 
 // The first chunk size from 1 on that brings another output, or one more than the most.
 fn first_other(input: &[u8], out: &[u8], n: usize, other: &mut [u8]) -> u64 {
-    let mut size: usize = 1;
-    while size <= MOST_SIZE {
+    for size in 1..=MOST_SIZE {
         if !agrees(input, size, out, n, other) {
             return size as u64;
         }
-        size += 1;
     }
-    size as u64
+    MOST_SIZE as u64 + 1
 }
 
 fn report(rt: &impl Print, input: &[u8], out: &mut [u8], other: &mut [u8]) -> io::Result<()> {
-    let r = session::run(input, 0, out);
-    let n = r.written;
-    if !r.ok {
-        return Ok(());
-    }
-    if n <= out.len() {
+    if let Some(n) = session::run(input, 0, out) && n <= out.len() {
         rt.write_all(&out[..n])?;
         let size = first_other(input, out, n, other);
         println!(rt; "the same in chunks of each size below {size}")?;
@@ -71,6 +51,7 @@ fn read_full(input: &mut impl Read, buf: &mut [u8]) -> io::Result<usize>
     ensures { IfOk result (λ n. n ≤ length buf.new) }
 {
     let mut done = 0;
+    // Kept: no `for` fits, since each turn takes as many bytes as a read gave.
     while done < buf.len() {
         let n = input.read(&mut buf[done..])?;
         if n == 0 {

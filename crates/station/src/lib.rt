@@ -5,10 +5,9 @@
 // what the call writes.
 #![tactic(auto)]
 
-ghost use Rattle.std.specs.Prelude.{◌≡◌, length};
-ghost use Rattle.timestamp.specs.declared.MaybeTimestamp.{MaybeTimestamp};
+ghost use Rattle.std.specs.Prelude.{◌≡◌, length, Option, Float};
+ghost use Rattle.timestamp.specs.declared.Timestamp.{Timestamp};
 ghost use Rattle.score.specs.declared.Components.{Components};
-ghost use Rattle.score.specs.declared.MaybeScore.{MaybeScore};
 ghost use Rattle.stream.specs.declared.Sums.{Sums};
 ghost use Rattle.content.specs.declared.Detector.{Detector};
 ghost use Rattle.adaptive.specs.declared.Detector.{Detector as AdaptiveDetector};
@@ -51,7 +50,7 @@ pub extern "C" fn mw_adaptive_words() -> u64
 // How many words an answer has.
 #[unsafe(no_mangle)]
 pub extern "C" fn mw_answer_words() -> u64
-    ensures { (cut : MaybeTimestamp) (score : MaybeScore) (deltas : Components) (sums : Sums) → result ≡ length (answer_words cut score deltas sums) }
+    ensures { (cut : Option Timestamp) (score : Option Float) (deltas : Components) (sums : Sums) → result ≡ length (answer_words cut score deltas sums) }
 {
     13
 }

@@ -1,15 +1,15 @@
 -- The words of an answer, each with what it reads back to, are the answer's and read back to it.
+use Rattle.std.proofs.Common.{Float, Option}
 use mathlib.Core.Path.{◌≡◌}
 use mathlib.Core.List.{List, [], ◌∷◌}
 use Prim.Native.Nat.{ℕ, ◌<◌}
 use native.Mathlib.Nat.{mod-eq_of_lt}
-use Rattle.timestamp.specs.declared.MaybeTimestamp.{MaybeTimestamp}
-use Rattle.score.specs.declared.MaybeScore.{MaybeScore}
 use Rattle.score.specs.declared.Components.{Components}
 use Rattle.stream.specs.declared.Sums.{Sums}
 use Rattle.words.specs.Choices.{stamp_tag, stamp_word, stamp_of, score_tag, score_word, score_of}
 use Rattle.words.proofs.Made.{FloatAs}
 use Rattle.station_answer.specs.Answer.{answer_words, ReadAs}
+use Rattle.timestamp.specs.declared.Timestamp.{Timestamp}
 
 -- each of the five numbers has 32 bits
 pub record Short (s : Sums) : Type 0 where
@@ -19,7 +19,7 @@ pub record Short (s : Sums) : Type 0 where
   pub edges-short : s.edges < 4294967296
   pub count-short : s.count < 4294967296
 
-pub answer-made : (cut : MaybeTimestamp) (score : MaybeScore) (deltas : Components) (sums : Sums) (w0 w1 w2 w3 w4 w5 w6 w7 : ℕ)
+pub answer-made : (cut : Option Timestamp) (score : Option Float) (deltas : Components) (sums : Sums) (w0 w1 w2 w3 w4 w5 w6 w7 : ℕ)
     → w0 ≡ stamp_tag cut → (w1 ≡ stamp_word cut) × (stamp_of (stamp_tag cut) w1 ≡ cut)
     → w2 ≡ score_tag score → (w3 ≡ score_word score) × (score_of (score_tag score) w3 ≡ score)
     → FloatAs deltas.delta_hue w4 → FloatAs deltas.delta_sat w5 → FloatAs deltas.delta_lum w6 → FloatAs deltas.delta_edges w7

@@ -1,4 +1,5 @@
 -- A tag is 0 or 1. A stream's words, each with what it reads back to, are the stream's and read back to it.
+use Rattle.std.proofs.Common.{None, Option, Some}
 use mathlib.Core.Path.{◌≡◌, refl}
 use mathlib.Core.Bool.{Bool, true, false, ◌||◌}
 use mathlib.Core.List.{List, [], ◌∷◌}
@@ -7,17 +8,9 @@ use native.Mathlib.Nat.{mod-eq_of_lt}
 use native.Mathlib.Omega.{arith}
 use borrow.Author.Tests.{le-leb, lt-ltb}
 use lib.Ieee.{Float, binary64, to_bits, of_bits}
-use Rattle.timestamp.specs.declared.MaybeTimestamp.{MaybeTimestamp}
-use Rattle.timestamp.specs.declared.MaybeTimestamp.TheVariants.{None, At}
-use Rattle.score.specs.declared.KernelSize.{KernelSize}
-use Rattle.score.specs.declared.KernelSize.TheVariants.{Auto, Set}
 use Rattle.score.specs.declared.Components.{Components}
-use Rattle.score.specs.declared.MaybeScore.{MaybeScore}
-use Rattle.score.specs.declared.MaybeScore.TheVariants.{None as no_score, Some as some_score}
-use Rattle.score.specs.declared.MaybeComponents.{MaybeComponents}
-use Rattle.score.specs.declared.MaybeComponents.TheVariants.{None as no_components, Some as some_components}
 use Rattle.stream.specs.declared.Stream.{Stream}
-use Rattle.words.specs.Choices.{flag_word, flag_of, stamp_tag, kernel_tag, score_tag, score_word, score_of, components_tag, components_if}
+use Rattle.words.specs.Choices.{flag_word, flag_of, tag_of, score_tag, score_word, score_of, components_tag, components_if}
 use Rattle.stream.specs.Stream.{components_shown}
 use Rattle.words.specs.Stream.{stream_words, is_stream, stream_of}
 
@@ -29,25 +22,13 @@ pub flag-low : (b : Bool) (w : ℕ) → w ≡ flag_word b → w ≤ 1
 flag-low true w e = omega arith
 flag-low false w e = omega arith
 
-pub score-low : (s : MaybeScore) (w : ℕ) → w ≡ score_tag s → w ≤ 1
-score-low no_score w e = omega arith
-score-low (some_score x) w e = omega arith
+pub tag-low : {A : Type 0} (o : Option A) (w : ℕ) → w ≡ tag_of o → w ≤ 1
+tag-low None w e = omega arith
+tag-low (Some x) w e = omega arith
 
-pub stamp-low : (t : MaybeTimestamp) (w : ℕ) → w ≡ stamp_tag t → w ≤ 1
-stamp-low None w e = omega arith
-stamp-low (At s) w e = omega arith
-
-pub kernel-low : (k : KernelSize) (w : ℕ) → w ≡ kernel_tag k → w ≤ 1
-kernel-low Auto w e = omega arith
-kernel-low (Set n) w e = omega arith
-
-components-low : (c : MaybeComponents) (w : ℕ) → w ≡ components_tag c → w ≤ 1
-components-low no_components w e = omega arith
-components-low (some_components x) w e = omega arith
-
-components-back : (c : MaybeComponents) → components_if (flag_of (components_tag c)) (components_shown c) ≡ c
-components-back no_components = refl
-components-back (some_components x) = refl
+components-back : (c : Option Components) → components_if (flag_of (components_tag c)) (components_shown c) ≡ c
+components-back None = refl
+components-back (Some x) = refl
 
 -- a double's word, and that it reads back
 abbrev pub FloatAs : Float → ℕ → Type 0
@@ -68,8 +49,8 @@ stream-made s shown p w0 w1 w2 w3 w4 w5 w6 w7 e0 e1 e2 e3 e4 e5 e6 e7 wide high 
   (
     rw (
       le-leb w0 1 (flag-low s.has_previous w0 e0.0),
-      le-leb w1 1 (score-low s.last_score w1 e1),
-      le-leb w3 1 (components-low s.last_components w3 e3),
+      le-leb w1 1 (tag-low s.last_score w1 e1),
+      le-leb w3 1 (tag-low s.last_components w3 e3),
       lt-ltb s.width 4294967296 wide,
       lt-ltb s.height 4294967296 high,
     ),

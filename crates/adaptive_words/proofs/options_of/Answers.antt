@@ -9,7 +9,7 @@ returns c =
       c.float_of.ensures,
       c.short_of.ensures,
       c.float_of-2.ensures,
-      c.components_of-weights.ensures,
-      c.kernel_of-kernel.ensures,
+      c.components_of.ensures,
+      c.kernel_of.ensures,
       c.flag_of.ensures,
     )

@@ -4,4 +4,4 @@ use Rattle.adaptive_words.proofs.window_of.Goals as goal
 
 pub returns : goal.returns
 unfolding window_of
-returns c = rw (c.stamp_of-cut.ensures, c.score_of-ratio.ensures, c.score_of-target.ensures, c.float_of.ensures)
+returns c = rw (c.stamp_of.ensures, c.score_of.ensures, c.score_of-2.ensures, c.float_of.ensures)

@@ -4,4 +4,4 @@ use Rattle.content_words.proofs.filter_of.Goals as goal
 
 pub returns : goal.returns
 unfolding filter_of
-returns c = rw (c.stamp_of-above.ensures, c.stamp_of-start.ensures, c.flag_of.ensures, c.flag_of-2.ensures)
+returns c = rw (c.stamp_of.ensures, c.stamp_of-2.ensures, c.flag_of.ensures, c.flag_of-2.ensures)

@@ -5,10 +5,10 @@ use Rattle.content_words.proofs.filter_words.Goals as goal
 pub returns : goal.returns
 returns c =
     let both = filter-made c.args.f _ _ _ _ _ _
-    c.stamp_tag-w0.ensures
-    (c.stamp_word-w1.ensures.value, c.stamp_word-w1.ensures.result_value)
-    (c.flag_word-w2.ensures.value, c.flag_word-w2.ensures.result_value)
-    (c.flag_word-w3.ensures.value, c.flag_word-w3.ensures.result_value)
-    c.stamp_tag-w4.ensures
-    (c.stamp_word-w5.ensures.value, c.stamp_word-w5.ensures.result_value) in
+    c.tag.ensures
+    (c.stamp_word.ensures.value, c.stamp_word.ensures.result_value)
+    (c.flag_word.ensures.value, c.flag_word.ensures.result_value)
+    (c.flag_word-2.ensures.value, c.flag_word-2.ensures.result_value)
+    c.tag-2.ensures
+    (c.stamp_word-2.ensures.value, c.stamp_word-2.ensures.result_value) in
     record { value = both.0; result_value = both.1 }

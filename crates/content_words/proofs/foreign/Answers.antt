@@ -5,4 +5,4 @@ use Rattle.content_words.proofs.foreign.Goals as goal
 
 pub returns : goal.returns
 unfolding foreign of_int of_bits
-returns c = rw (c.with_weights-o.ensures, c.new.ensures, c.fresh_stream-s.ensures, c.new-f.ensures)
+returns c = rw (c.with_weights.ensures, c.new.ensures, c.new-2.ensures, c.fresh_stream.ensures, c.new-3.ensures)

@@ -7,8 +7,8 @@ unfolding options_of
 returns c =
     rw (
       c.float_of.ensures,
-      c.components_of-weights.ensures,
-      c.mode_of-mode.ensures,
-      c.kernel_of-kernel.ensures,
+      c.components_of.ensures,
+      c.mode_of.ensures,
+      c.kernel_of.ensures,
       c.flag_of.ensures,
     )

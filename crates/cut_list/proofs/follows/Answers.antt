@@ -1,51 +1,36 @@
--- `cut_list::follows` meets its contract. Assumes nothing.
+-- `cut_list::follows` meets its contract: the test by the distance is the test by the sum.
+use Rattle.std.proofs.Common.{is_lt, int_cmp, Less, Equal, Greater}
 use Prim.Native.Nat.{ℕ}
-use mathlib.Core.Path.{◌≡◌, refl, sym, ap, ◌∙◌}
-use mathlib.Core.Bool.{Bool, true, false, cond, ◌&&◌}
-use lib.Dec.{ltb, leb}
-use lib.IntN.{ℤ, pos, nat_abs, ◌+ℤ◌, ◌-ℤ◌}
+use mathlib.Core.Path.{◌≡◌, refl, sym, ◌∙◌}
+use mathlib.Core.Bool.{Bool, true, false, cond}
+use lib.Dec.{leb}
+use lib.IntN.{ℤ, pos, ◌+ℤ◌}
 use lib.Signed.{le_z, lt_z}
-use borrow.Author.Tests.{lt-ltb, le-ltb}
-use Rattle.timestamp.specs.declared.Timestamp.{Timestamp}
-use Rattle.timestamp.specs.declared.Since.{Since}
-use Rattle.timestamp.specs.declared.Since.TheVariants.{Earlier, Micros}
-use Rattle.timestamp.specs.Stamps.{distance, duration_since}
-use Rattle.laws.proofs.Whole.{whole, sum-read, abs-down}
+use Rattle.timestamp.specs.Stamps.{distance}
+use Rattle.laws.proofs.Whole.{whole, sum-read}
 use Rattle.cut_list.specs.Record.{follows}
+use Rattle.cut_list.proofs.Tests.{gap_down}
 use Rattle.cut_list.proofs.follows.Goals as goal
 
--- later, and d or more past it
-abbrev past : ℕ → Since → Bool
-past d Earlier = false
-past d (Micros n) = ltb 0 n && leb d n
+-- the answer of `<`
+less : (x y : ℤ) {r v : Bool} → r ≡ is_lt (int_cmp x y) → r ≡ v → lt_z x y ≡ v
+less x y e f = by (lt_z x y) (lt_z y x) (sym e ∙ f)
+  where
+    by : (p q : Bool) {v : Bool} → is_lt (cond p Less (cond q Greater Equal)) ≡ v → p ≡ v
+    by true q e = e
+    by false true e = e
+    by false false e = e
 
-module _ (earlier ts : ℤ) (d : ℕ) where
-  abbrev n : ℕ
-  n = nat_abs (ts -ℤ earlier)
+far : (d : ℕ) (x y : ℤ) → lt_z x y ≡ true → (b : Bool) → leb d (distance y x) ≡ b → b ≡ le_z (x +ℤ pos d) y
+far d x y h true e = sym (omega (whole, sum-read x (pos d), gap_down y x (omega whole)))
+far d x y h false e = sym (omega (whole, sum-read x (pos d), gap_down y x (omega whole)))
 
-  later : le_z earlier ts ≡ true → (b : Bool) → lt_z earlier ts ≡ b → ltb 0 n ≡ b
-  later h true e = lt-ltb 0 n (omega (whole, abs-down ts earlier (omega whole)))
-  later h false e = le-ltb 0 n (omega (whole, abs-down ts earlier (omega whole)))
+pub returns-then-lt : goal.returns-then-lt
+unfolding follows
+returns-then-lt c =
+    let h = less c.args.earlier.micros c.args.ts.micros c.lt.ensures c.if-lt.true in
+    rw (c.distance.ensures, h) (far c.args.min_duration c.args.earlier.micros c.args.ts.micros h _ refl)
 
-  far : le_z earlier ts ≡ true → (b : Bool) → leb d n ≡ b → b ≡ le_z (earlier +ℤ pos d) ts
-  far h true e = sym (omega (whole, sum-read earlier (pos d), abs-down ts earlier (omega whole)))
-  far h false e = sym (omega (whole, sum-read earlier (pos d), abs-down ts earlier (omega whole)))
-
-  not-later : le_z earlier ts ≡ false → (b : Bool) → lt_z earlier ts ≡ b → b ≡ false
-  not-later h true e = absurd (omega whole)
-  not-later h false e = refl
-
-  by_order : (b : Bool) → le_z earlier ts ≡ b → past d (cond b (Micros n) Earlier) ≡ (lt_z earlier ts && le_z (earlier +ℤ pos d) ts)
-  by_order true h = rw (later h (lt_z earlier ts) refl, far h (leb d n) refl)
-  by_order false h = rw (not-later h (lt_z earlier ts) refl)
-
--- the test by the difference is the test by the sum
-past_is : (d : ℕ) (earlier ts : Timestamp) → past d (duration_since ts earlier) ≡ follows d earlier.micros ts.micros
-unfolding duration_since distance follows
-past_is d earlier ts = by_order earlier.micros ts.micros d (le_z earlier.micros ts.micros) refl
-
-pub returns-in-Earlier : goal.returns-in-Earlier
-returns-in-Earlier c = ap (past c.args.min_duration) c.in-Earlier.ensures ∙ past_is _ c.args.earlier c.args.ts
-
-pub returns-in-Micros : goal.returns-in-Micros
-returns-in-Micros c = ap (past c.args.min_duration) c.in-Micros.ensures ∙ past_is _ c.args.earlier c.args.ts
+pub returns-else-lt : goal.returns-else-lt
+unfolding follows
+returns-else-lt c = rw (c.if-lt.false, less c.args.earlier.micros c.args.ts.micros c.lt.ensures c.if-lt.false)

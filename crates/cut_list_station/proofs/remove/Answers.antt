@@ -7,4 +7,4 @@ use Rattle.cut_list_station.proofs.remove.Goals as goal
 pub returns : goal.returns
 returns c =
     let brought = rw (c.read-l.ensures, to_z-of_z w64 c.args.ts c.ranges.ts) at c.remove-removed.ensures in
-    changed _ _ _ _ _ _ (remove-keeps _ _) brought _ (c.write_changed.ensures.number, (c.write_changed.ensures.list, c.write_changed.ensures.read_back))
+    changed (remove-keeps _ _) brought _ (c.write_changed.ensures.number, (c.write_changed.ensures.list, c.write_changed.ensures.read_back))

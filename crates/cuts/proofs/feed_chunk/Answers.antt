@@ -35,7 +35,7 @@ loop-a-smaller g c =
     let v = c.loop-a.invariant in
     let f = c.feed-f in
     let t =
-    turn (state_of c.args.s c.args.line.now c.args.store.now) (state_of c.loop-a.state c.loop-a.line c.loop-a.store) (state_of f.result.session f.new.line f.new.store) c.args.chunk.now c.loop-a.a
+    turn (state_of c.args.s c.args.memory.now.line c.args.memory.now.store) (state_of c.loop-a.state c.loop-a.memory.line c.loop-a.memory.store) (state_of f.result.session f.new.memory.line f.new.memory.store) c.args.chunk.now c.loop-a.a
     v.2 f.ensures.feeds f.ensures.filled (omega (arith, v.0, c.requires)) c.loop-a-test.true
     in
     omega (arith, t.within, t.some)
@@ -45,7 +45,7 @@ loop-a-preserved g c =
     let v = c.loop-a.invariant in
     let f = c.feed-f in
     let t =
-    turn (state_of c.args.s c.args.line.now c.args.store.now) (state_of c.loop-a.state c.loop-a.line c.loop-a.store) (state_of f.result.session f.new.line f.new.store) c.args.chunk.now c.loop-a.a
+    turn (state_of c.args.s c.args.memory.now.line c.args.memory.now.store) (state_of c.loop-a.state c.loop-a.memory.line c.loop-a.memory.store) (state_of f.result.session f.new.memory.line f.new.memory.store) c.args.chunk.now c.loop-a.a
     v.2 f.ensures.feeds f.ensures.filled (omega (arith, v.0, c.requires)) c.loop-a-test.true
     in
     (omega (arith, f.auto.out, v.0), t.within, t.state)

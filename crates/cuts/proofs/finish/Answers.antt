@@ -5,4 +5,4 @@ use Rattle.session.proofs.Feeding.{finishes-fit}
 use Rattle.cuts.proofs.finish.Goals as goal
 
 pub write_out-wrote-requires : goal.write_out-wrote-requires
-write_out-wrote-requires g c = omega (arith, finishes-fit _ _ _ _ _ _ c.finish-f.ensures refl)
+write_out-wrote-requires g c = omega (arith, finishes-fit _ _ _ _ _ _ c.finish-f.ensures.finishes refl)

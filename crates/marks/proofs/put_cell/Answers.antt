@@ -5,8 +5,7 @@ use Rattle.decimal.proofs.Writes.{wrote-next}
 use Rattle.marks.proofs.put_cell.Goals as goal
 
 pub put_byte-requires : goal.put_byte-requires
-put_byte-requires c = omega (arith, decimal-length c.args.n)
+put_byte-requires c = omega (arith, decimal-length c.from.result)
 
 pub returns : goal.returns
-returns c =
-    wrote-next _ _ _ _ _ _ _ _ (omega arith) c.put_number-e.ensures c.put_byte.ensures
+returns c = rw (← c.from.ensures) (wrote-next _ _ _ _ _ _ _ _ (omega arith) c.put_number-e.ensures c.put_byte.ensures)

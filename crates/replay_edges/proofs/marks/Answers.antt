@@ -1,5 +1,4 @@
 use Prim.Native.Nat.{ℕ, ◌+◌}
-use native.Mathlib.Omega.{arith}
 use mathlib.Core.Path.{◌≡◌, refl, ◌∙◌}
 use native.Mathlib.Numerals.{add-one}
 use Rattle.canny_marks.specs.Marks.{low_mark, high_mark}
@@ -15,11 +14,9 @@ more n low high e f g h = rw (h, e, f, g, add-one n) refl
 
 pub loop-m-init : goal.loop-m-init
 unfolding marks_of
-loop-m-init c = (omega arith, cc)
+loop-m-init c = cc
 
 pub loop-m-preserved : goal.loop-m-preserved
-loop-m-preserved c = (
-  omega arith,
-  c.step-d.ensures
-      ∙ more _ _ _ c.loop-m.invariant.1 c.low_threshold-low.ensures c.high_threshold-high.ensures c.step.ensures,
-)
+loop-m-preserved c =
+    c.step-d.ensures
+    ∙ more _ _ _ c.loop-m.invariant c.low_threshold-low.ensures c.high_threshold-high.ensures c.step.ensures

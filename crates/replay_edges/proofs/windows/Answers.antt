@@ -1,5 +1,4 @@
 use Prim.Native.Nat.{ℕ, ◌+◌, ◌*◌, ◌/◌, ◌%◌}
-use native.Mathlib.Omega.{arith}
 use mathlib.Core.Path.{◌≡◌, refl, ◌∙◌}
 use native.Mathlib.Numerals.{add-one}
 use Rattle.canny_marks.specs.Kernel.{auto_kernel_size}
@@ -15,7 +14,7 @@ more n k e f = rw (e, f, add-one n) refl
 
 pub loop-c-init : goal.loop-c-init
 unfolding windows_of
-loop-c-init c = (omega arith, cc)
+loop-c-init c = cc
 
 pub loop-c-preserved : goal.loop-c-preserved
-loop-c-preserved c = (omega arith, c.word-d.ensures ∙ more _ _ c.loop-c.invariant.1 c.auto_kernel_size.ensures)
+loop-c-preserved c = c.word-d.ensures ∙ more _ _ c.loop-c.invariant c.auto_kernel_size.ensures

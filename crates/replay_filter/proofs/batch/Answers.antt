@@ -1,4 +1,4 @@
-use Rattle.std.proofs.Common.{◌≡◌, refl, ap, ◌∙◌, ℕ, ◌+◌, ◌*◌, add-one, arith}
+use Rattle.std.proofs.Common.{◌≡◌, refl, ℕ, ◌+◌, ◌*◌, add-one}
 use Rattle.replay.specs.declared.Digest.{Digest}
 use Rattle.replay_filter.specs.Lists.{list_of, batch_of}
 use Rattle.replay_filter.proofs.batch.Goals as goal
@@ -10,10 +10,7 @@ more d e b n f g = rw (g, f, add-one n) refl
 
 pub loop-c-init : goal.loop-c-init
 unfolding batch_of
-loop-c-init c = (omega arith, c.empty-d.ensures)
+loop-c-init c = c.empty-d.ensures
 
 pub loop-c-preserved : goal.loop-c-preserved
-loop-c-preserved c = (omega arith, more _ _ _ _ c.loop-c.invariant.1 c.list-d.ensures)
-
-pub returns : goal.returns
-returns c = let e : c.loop-c.c ≡ 256 = omega arith in c.loop-c.invariant.1 ∙ ap (batch_of _) e
+loop-c-preserved c = more _ _ _ _ c.loop-c.invariant c.list-d.ensures

@@ -1,7 +1,4 @@
-use mathlib.Core.Path.{◌≡◌, refl, ◌∙◌}
-use Prim.Native.Nat.{ℕ, ◌+◌, ◌*◌}
-use native.Mathlib.Numerals.{add-one}
-use native.Mathlib.Omega.{arith}
+use Rattle.std.proofs.Common.{◌≡◌, ◌∙◌, refl, ℕ, ◌+◌, ◌*◌, add-one}
 use Rattle.replay.specs.declared.Digest.{Digest}
 use Rattle.replay.specs.Digest.{fed}
 use Rattle.replay_hsv.specs.Pixels.{pixel_bytes, digest_of}
@@ -14,8 +11,7 @@ more first i e = rw (e, add-one i) refl
 
 pub loop-i-init : goal.loop-i-init
 unfolding digest_of
-loop-i-init c = (omega arith, c.empty-d.ensures)
+loop-i-init c = c.empty-d.ensures
 
 pub loop-i-preserved : goal.loop-i-preserved
-loop-i-preserved c =
-    (omega arith, c.pixel-d.ensures ∙ more (c.args.part * 1048576) c.loop-i.i c.loop-i.invariant.1)
+loop-i-preserved c = c.pixel-d.ensures ∙ more (c.args.part * 1048576) c.loop-i.i c.loop-i.invariant

@@ -1,5 +1,4 @@
 use Prim.Native.Nat.{ℕ, ◌+◌, ◌/◌, ◌%◌}
-use native.Mathlib.Omega.{arith}
 use mathlib.Core.Path.{◌≡◌, refl, ◌∙◌}
 use native.Mathlib.Numerals.{add-one}
 use Rattle.replay_planes.specs.declared.Run.{Run}
@@ -14,7 +13,7 @@ more stage w n e = rw (e, add-one n) refl
 
 pub loop-c-init : goal.loop-c-init
 unfolding batch_of
-loop-c-init c = (omega arith, cc)
+loop-c-init c = cc
 
 pub loop-c-preserved : goal.loop-c-preserved
-loop-c-preserved c = (omega arith, c.one-run.ensures ∙ more _ _ _ c.loop-c.invariant.1)
+loop-c-preserved c = c.run-run.ensures ∙ more _ _ _ c.loop-c.invariant

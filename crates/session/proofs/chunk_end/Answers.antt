@@ -18,14 +18,8 @@ some_of a size n more = rw (ne_eqb size 0 (omega (arith, more))) refl
 pub returns-then-size-eq0 : goal.returns-then-size-eq0
 returns-then-size-eq0 c = let s = c.args in omega (arith, c.requires, all_of s.a s.size s.n c.if-size-eq0.true)
 
-pub returns-then-size-n : goal.returns-then-size-n
-returns-then-size-n c =
+pub returns-else-size-eq0 : goal.returns-else-size-eq0
+returns-else-size-eq0 c =
     let s = c.args in
     let more : 0 < s.size = omega (arith, c.if-size-eq0.false) in
-    omega (arith, c.requires, c.if-size-n.true, more, some_of s.a s.size s.n more)
-
-pub returns : goal.returns
-returns c =
-    let s = c.args in
-    let more : 0 < s.size = omega (arith, c.if-size-eq0.false) in
-    omega (arith, c.requires, c.if-size-n.false, more, some_of s.a s.size s.n more)
+    record { value = omega (arith, c.requires, c.min.ensures, some_of s.a s.size s.n more); lower_bound = (omega (arith, c.requires, c.min.ensures, more), omega (arith, c.requires, c.min.ensures)) }

@@ -4,4 +4,9 @@ use Rattle.session.proofs.end_line.Goals as goal
 
 pub returns : goal.returns
 returns c =
-    line-ends c.args.s _ _ _ _ _ c.call_line-a.ensures.value c.call_line-a.ensures.store_after c.next_number-n.ensures _ c.put_line-e.ensures.0 _ c.put_line-e.ensures.1
+    record {
+      line_stays = c.call_line-a.ensures.line_stays;
+      ends =
+          line-ends c.args.s _ _ _ _ _ c.call_line-a.ensures.value c.call_line-a.ensures.store_after c.next_number.ensures _ c.put_line-e.ensures.0 _ c.put_line-e.ensures.1 _
+          c.shown_by-shown.ensures.detector;
+    }

@@ -13,6 +13,6 @@ loop-a-preserved c =
     let e = c.feed_line-f.ensures in
     let kept = c.feed_line-f.auto.out in (
       omega (arith, kept, v.0),
-      omega (arith, kept, e.1, v.1, c.if-out-at-lt-ROOM.false),
+      omega (arith, kept, e.1, v.1, c.if-out-at-ge-ROOM.true),
       feeds-then _ _ _ _ _ _ _ _ _ _ (length c.args.chunk.now - c.loop-a.a) _ _ c.requires v.2 e.2,
     )

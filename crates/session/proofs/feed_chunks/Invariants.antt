@@ -8,7 +8,7 @@ use Rattle.session.proofs.feed_chunks.Given as goal
 
 abbrev pub invariant-loop-a : goal.invariant-loop-a
 invariant-loop-a l =
-    (length l.out ≡ length l.initial.out) × (l.at + l.w ≤ length l.out) × Feeds (state_of l.initial.state l.initial.line l.initial.store) l.input l.initial.out l.at (state_of l.state l.line l.store) l.out l.a l.w
+    (length l.out ≡ length l.initial.out) × (l.at + l.w ≤ length l.out) × Feeds (state_of l.initial.session l.initial.memory.line l.initial.memory.store) l.input l.initial.out l.at (state_of l.session l.memory.line l.memory.store) l.out l.a l.w
 
 abbrev pub decreases-loop-a : goal.decreases-loop-a
 decreases-loop-a l =

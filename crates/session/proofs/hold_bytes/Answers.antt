@@ -1,21 +1,12 @@
+-- `session::hold_bytes` meets its contract: the bytes before the line feed join those that are held. Assumes nothing.
+use mathlib.Core.Path.{◌∙◌}
 use native.Mathlib.Omega.{arith}
-use Rattle.session.proofs.Holding.{holding-none, holding-more, holding-feed, holding-end}
+use Rattle.session.proofs.Holding.{before-found, before-within, bytes-held}
 use Rattle.session.proofs.hold_bytes.Goals as goal
-
-pub loop-i-init : goal.loop-i-init
-loop-i-init c = (c.requires.0, holding-none _ _ _ c.requires.1)
-
-pub returns-then-b-eq10 : goal.returns-then-b-eq10
-returns-then-b-eq10 c =
-    let h = c.loop-i.invariant.1 in
-    (h.small, holding-feed h c.loop-i-test.true c.if-b-eq10.true, h.same)
-
-pub loop-i-preserved : goal.loop-i-preserved
-loop-i-preserved c =
-    let l = c.loop-i in
-    (omega arith, holding-more l.invariant.1 _ _ c.loop-i-test.true c.if-b-eq10.false c.keep-n.ensures.0 c.keep-n.ensures.1)
 
 pub returns : goal.returns
 returns c =
-    let h = c.loop-i.invariant.1 in
-    (h.small, holding-end h c.loop-i-test.false, h.same)
+    let a = c.args in
+    let at = c.unwrap_or-at.ensures ∙ before-found a.chunk.now c.first_feed.result c.first_feed.ensures in
+    let within = before-within a.chunk.now in
+    (omega arith, at, bytes-held a.line.now a.chunk.now _ a.held _ _ c.requires.0 c.requires.1 (omega (arith, at, within)) c.min-n.ensures c.copy_from_slice.ensures.after)

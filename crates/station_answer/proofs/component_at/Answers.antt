@@ -1,25 +1,32 @@
 -- `station_answer::component_at` meets its contract.
 use Rattle.station_answer.specs.Answer.{component_at}
 use borrow.Author.Tests.{ne_eqb}
+use native.Mathlib.Omega.{arith}
 use lib.Ieee.{of_int, of_bits}
 use Rattle.station_answer.proofs.component_at.Goals as goal
 
-pub returns-then-place-eq0 : goal.returns-then-place-eq0
+pub returns-in-0 : goal.returns-in-0
 unfolding component_at
-returns-then-place-eq0 c = rw (c.if-place-eq0.true, c.components_shown-shown.ensures)
+returns-in-0 c = rw (c.in-0.is, c.components_shown-shown.ensures)
 
-pub returns-then-place-eq1 : goal.returns-then-place-eq1
+pub returns-in-1 : goal.returns-in-1
 unfolding component_at
-returns-then-place-eq1 c = rw (c.if-place-eq1.true, c.components_shown-shown.ensures)
+returns-in-1 c = rw (c.in-1.is, c.components_shown-shown.ensures)
 
-pub returns-then-place-eq2 : goal.returns-then-place-eq2
+pub returns-in-2 : goal.returns-in-2
 unfolding component_at
-returns-then-place-eq2 c = rw (c.if-place-eq2.true, c.components_shown-shown.ensures)
+returns-in-2 c = rw (c.in-2.is, c.components_shown-shown.ensures)
 
-pub returns-then-place-eq3 : goal.returns-then-place-eq3
+pub returns-in-3 : goal.returns-in-3
 unfolding component_at
-returns-then-place-eq3 c = rw (c.if-place-eq3.true, c.components_shown-shown.ensures)
+returns-in-3 c = rw (c.in-3.is, c.components_shown-shown.ensures)
 
-pub returns : goal.returns
+pub returns-in_default : goal.returns-in_default
 unfolding component_at of_int of_bits
-returns c = rw (ne_eqb _ 0 c.if-place-eq0.false, ne_eqb _ 1 c.if-place-eq1.false, ne_eqb _ 2 c.if-place-eq2.false, ne_eqb _ 3 c.if-place-eq3.false)
+returns-in_default c =
+    rw (
+      ne_eqb c.args.place 0 (λ e. omega arith),
+      ne_eqb c.args.place 1 (λ e. omega arith),
+      ne_eqb c.args.place 2 (λ e. omega arith),
+      ne_eqb c.args.place 3 (λ e. omega arith),
+    )

@@ -4,6 +4,4 @@ use Rattle.words.proofs.stream_of.Goals as goal
 
 pub returns : goal.returns
 unfolding stream_of
-returns c =
-    let b = c in
-    rw (c.flag_of.ensures, c.short_of.ensures, c.short_of-2.ensures, b.maybe_components-last_components.ensures, b.score_of-last_score.ensures, b.components_of-shown.ensures)
+returns c = rw (c.flag_of.ensures, c.short_of.ensures, c.short_of-2.ensures, c.then_some.ensures, c.flag_of-2.ensures, c.score_of.ensures, c.components_of-shown.ensures)

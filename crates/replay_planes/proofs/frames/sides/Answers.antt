@@ -1,5 +1,4 @@
 use Prim.Native.Nat.{ℕ, ◌+◌, ◌/◌, ◌%◌}
-use native.Mathlib.Omega.{arith}
 use mathlib.Core.Path.{◌≡◌, refl}
 use native.Mathlib.Numerals.{add-one}
 use Rattle.replay.specs.declared.Digest.{Digest}
@@ -13,11 +12,9 @@ more n e = rw (e, add-one n) refl
 
 pub loop-c-init : goal.loop-c-init
 unfolding sides_of
-loop-c-init c = (omega arith, c.empty-d.ensures)
+loop-c-init c = c.empty-d.ensures
 
 pub loop-c-preserved : goal.loop-c-preserved
-loop-c-preserved c = (
-  omega arith,
-  rw (c.checks-d.ensures, c.side-in-loop-c-2.ensures, c.side-in-loop-c.ensures, c.side.ensures)
-      (more c.loop-c.c c.loop-c.invariant.1),
-)
+loop-c-preserved c =
+    rw (c.checks-d.ensures, c.side-in-loop-c-2.ensures, c.side-in-loop-c.ensures, c.side.ensures)
+    (more c.loop-c.c c.loop-c.invariant)

@@ -1,0 +1,34 @@
+-- No refusal has the number 0, which is that of a call that is not refused.
+use Rattle.std.proofs.Common.{◌≡◌, ◌<◌, arith, not, Result, Ok, Err, refl}
+use Rattle.std.specs.Result.{is_err}
+use borrow.Author.Tests.{ne_eqb}
+use lib.Dec.{eqb}
+use Rattle.refusal.specs.declared.Refusal.{Refusal}
+use Rattle.refusal.specs.declared.Refusal.TheVariants.{FrameTooLarge, StrideTooShort, DataTooShort, SaturationTooShort, ValueTooShort, WeightTooHeavy, NoWeight, BadKernel, NotANumber, NoWindow, WindowTooWide, StoreTooShort, ScratchTooShort, MagnitudesTooShort, BadState, NotAFrameLine, TooClose, ListFull, NotInList}
+use Rattle.refusal.specs.Refusal.{number_of, number_in}
+
+pub positive : (why : Refusal) → 0 < number_of why
+positive FrameTooLarge = omega arith
+positive StrideTooShort = omega arith
+positive DataTooShort = omega arith
+positive SaturationTooShort = omega arith
+positive ValueTooShort = omega arith
+positive WeightTooHeavy = omega arith
+positive NoWeight = omega arith
+positive BadKernel = omega arith
+positive NotANumber = omega arith
+positive NoWindow = omega arith
+positive WindowTooWide = omega arith
+positive StoreTooShort = omega arith
+positive ScratchTooShort = omega arith
+positive MagnitudesTooShort = omega arith
+positive BadState = omega arith
+positive NotAFrameLine = omega arith
+positive TooClose = omega arith
+positive ListFull = omega arith
+positive NotInList = omega arith
+
+-- a result that says a refusal, by its number
+pub says-refused : (r : Result (Unit {0}) Refusal) → is_err r ≡ not (eqb (number_in r) 0)
+says-refused (Ok x) = refl
+says-refused (Err why) = rw (ne_eqb (number_of why) 0 (λ z. omega (arith, positive why))) refl
