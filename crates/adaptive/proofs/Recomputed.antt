@@ -1,17 +1,16 @@
 -- A reader who has an answer of the adaptive detector and its weights works out the components and the score again, from the answer's whole sums and
 -- its count alone (RULES 6.8). It holds of any call at any state.
-use mathlib.Core.Path.{◌≡◌, refl, sym, subst}
+use mathlib.Core.Path.{◌≡◌, refl}
 use mathlib.Core.Bool.{Bool, true, false}
 use Prim.Native.Nat.{ℕ}
 use Rattle.score.specs.Scores.{edges_enabled}
 use Rattle.stream.specs.Stream.{no_sums, FromSums}
-use Rattle.frame_call.specs.Call.{Memory, Call, Called}
+use Rattle.frame_call.specs.Call.{Call}
 use Rattle.frame_call.specs.Earlier.{pixels_of}
 use Rattle.frame_call.proofs.Sums.{none_from, call_from, no-pixels-no-sums, edges-off}
 use Rattle.adaptive.specs.declared.Detector.{Detector}
-use Rattle.adaptive.specs.declared.Answer.{Answer}
 use Rattle.adaptive.specs.Options.{picture_options}
-use Rattle.adaptive.specs.State.{bad_state, refused_answer, cleared_answer}
+use Rattle.adaptive.specs.State.{Answer, bad_state, refused_answer, cleared_answer}
 use Rattle.adaptive.specs.Step.{stepped, called}
 
 -- an answer's components and score are those that its sums give, under the detector's weights
@@ -34,10 +33,6 @@ recomputed d c =
     call_from d.stream (picture_options d.options) (bad_state d) (stepped d) (refused_answer d) (cleared_answer d)
     (λ (a : Answer). a.score) (λ (a : Answer). a.components) (λ (a : Answer). a.sums)
     (λ ts p from. from) (λ n. none_from d.options.weights) (cleared-as (Recomputed d) (λ e n. none_from d.options.weights) d) c
-
--- the answer of a call that meets its contract
-pub from-called : (d : Detector) (c : Call) (r : Answer) (n : ℕ) (m m' : Memory) → Called (called d c) r n m m' → Recomputed d r
-from-called d c r n m m' made = subst (Recomputed d) (sym made.answered) (recomputed d c)
 
 -- ---- where an answer's sums are 0 (RULES 4.4, 4.5); that they are where it has no score is in `FromSums`
 

@@ -1,11 +1,9 @@
 -- The adaptive detector's settings and their defaults (RULES 9.1), and their refusals (RULES 10.1, 10.5).
-use Rattle.std.specs.Prelude.{Bool, true, not, ◌||◌, [], ◌∷◌, ℕ, eqb, ltb, Float}
+use Rattle.std.specs.Prelude.{Bool, true, not, ◌||◌, [], ◌∷◌, ℕ, eqb, ltb, Float, None, Option}
 use Rattle.std.specs.Float.Ieee.{is_nan}
 use Rattle.laws.specs.Floats.{float}
-use Rattle.frame.specs.Refusal.{first_that}
+use Rattle.refusal.specs.Refusal.{first_that}
 use Rattle.score.specs.declared.Components.{Components}
-use Rattle.score.specs.declared.KernelSize.{KernelSize}
-use Rattle.score.specs.declared.KernelSize.TheVariants.{Auto}
 use Rattle.score.specs.Scores.{default_weights}
 use Rattle.score.specs.Settings.{settings_refusal}
 use Rattle.frame_call.specs.declared.PictureOptions.{PictureOptions}
@@ -13,14 +11,14 @@ use Rattle.window.specs.declared.WindowOptions.{WindowOptions}
 use Rattle.adaptive.specs.declared.Options.{Options}
 
 -- settings of these seven values
-abbrev pub options : Float → ℕ → ℕ → Float → Components → KernelSize → Bool → Options
+abbrev pub options : Float → ℕ → ℕ → Float → Components → Option ℕ → Bool → Options
 options threshold minimum width content weights kernel initial =
     record { adaptive_threshold = threshold; min_duration = minimum; window_width = width; min_content_val = content; weights = weights; kernel_size = kernel; initial_cut = initial }
 
 -- the defaults: `adaptive_threshold` 3, a minimum of one second, window 2, `min_content_val` 15, the default weights, k not set, `initial_cut` on
 -- (RULES 9.1)
 abbrev pub defaults : Options
-defaults = options (float 3) 1000000 2 (float 15) default_weights Auto true
+defaults = options (float 3) 1000000 2 (float 15) default_weights None true
 
 -- what the window reads of the settings (RULES 9.1)
 abbrev pub window_options : Options → WindowOptions

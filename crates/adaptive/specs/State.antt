@@ -1,17 +1,20 @@
 -- The state of an adaptive detector, when it is bad (RULES 10.6), and what a settings call (RULES 8.2), a refused call (RULES 10.3) and `clear`
 -- (RULES 9.11) return.
 use Rattle.std.specs.Prelude.{Bool, cond, not, ◌||◌, ℕ, ◌+◌, ◌*◌, eqb, ltb}
-use Rattle.timestamp.specs.declared.MaybeTimestamp.TheVariants.{None}
 use Rattle.frame.specs.Checks.{too_large}
-use Rattle.score.specs.declared.MaybeScore.TheVariants.{None as no_score}
-use Rattle.score.specs.declared.MaybeComponents.TheVariants.{None as no_components}
-use Rattle.stream.specs.Stream.{no_sums, fresh_stream, components_shown}
+use Rattle.stream.specs.Stream.{fresh_stream}
 use Rattle.window.specs.Window.{fresh as fresh_window}
 use Rattle.adaptive.specs.declared.Options.{Options}
 use Rattle.adaptive.specs.declared.Detector.{Detector}
-use Rattle.adaptive.specs.declared.Settled.{Settled}
-use Rattle.adaptive.specs.declared.Answer.{Answer}
+use Rattle.detector.specs.Answers.{Answer as AnswerOf, Settled as SettledOf, without_score}
 use Rattle.adaptive.specs.Options.{defaults, options_refusal}
+
+-- what a frame call or `clear` answers, and what a settings call returns, of this detector
+abbrev pub Answer : Type 0
+Answer = AnswerOf Detector
+
+abbrev pub Settled : Type 0
+Settled = SettledOf Detector
 
 -- a state before the first frame of a stretch, with these settings, this size and a fresh window
 abbrev pub state_of : Options → ℕ → ℕ → Detector
@@ -33,7 +36,7 @@ settled o = record { number = options_refusal o; detector = fresh (cond (eqb (op
 -- an answer with this state, no cut, no score and no sums: that of a refused call, with the old state (RULES 10.3), and that of `clear`, with the
 -- number 0
 abbrev pub refused_answer : Detector → ℕ → Answer
-refused_answer d n = record { number = n; detector = d; cut = None; score = no_score; components = components_shown no_components; sums = no_sums }
+refused_answer d n = without_score d n
 
 -- what `clear` returns: refused by 15 alone, it keeps settings and size, and all else is as at the start (RULES 9.11)
 unfoldable pub cleared_answer : Detector → Answer

@@ -1,5 +1,6 @@
 -- What holds of every state of a run: the settings are those it began with, no side exceeds 4,096, and the window's count is at most
 -- 2 × window + 1. So no state of a run is bad. Assumes nothing.
+use Rattle.std.proofs.Common.{Float, None, Option, Some}
 use mathlib.Core.Path.{◌≡◌, refl, ap}
 use mathlib.Core.Bool.{false, not, ◌||◌}
 use Prim.Native.Nat.{ℕ, ◌+◌, ◌*◌}
@@ -8,15 +9,12 @@ use lib.Dec.{eqb, ltb}
 use borrow.Author.Tests.{le-ltb, ltb-false}
 use Rattle.timestamp.specs.declared.Timestamp.{Timestamp}
 use Rattle.frame.specs.Checks.{too_large}
-use Rattle.score.specs.declared.MaybeScore.{MaybeScore}
-use Rattle.score.specs.declared.MaybeScore.TheVariants.{None as no_score, Some as some_score}
 use Rattle.window.specs.Window.{fresh as fresh_window}
 use Rattle.frame_call.proofs.Runs.{DetectorLaws}
 use Rattle.adaptive.specs.declared.Options.{Options}
 use Rattle.adaptive.specs.declared.Detector.{Detector}
-use Rattle.adaptive.specs.declared.Answer.{Answer}
 use Rattle.adaptive.specs.Options.{window_options, picture_options, options_refusal}
-use Rattle.adaptive.specs.State.{state_of, fresh, bad_state, refused_answer, cleared_answer}
+use Rattle.adaptive.specs.State.{Answer, state_of, fresh, bad_state, refused_answer, cleared_answer}
 use Rattle.adaptive.specs.Step.{window_step, stepped}
 use Rattle.adaptive_claim.proofs.Counted.{push-keeps}
 
@@ -32,10 +30,10 @@ none-counted n = le-ltb n 0 (omega arith)
 pub fresh-good : (o : Options) → Good o (fresh o)
 fresh-good o = record { options = refl; sides = refl; counted = none-counted (2 * o.window_width + 1) }
 
-window-stays : (d : Detector) (ts : Timestamp) (x : MaybeScore) → ltb (2 * d.options.window_width + 1) d.window.count ≡ false
+window-stays : (d : Detector) (ts : Timestamp) (x : Option Float) → ltb (2 * d.options.window_width + 1) d.window.count ≡ false
     → ltb (2 * d.options.window_width + 1) (window_step d.options d.window ts x).window.count ≡ false
-window-stays d ts no_score e = e
-window-stays d ts (some_score x) e =
+window-stays d ts None e = e
+window-stays d ts (Some x) e =
     le-ltb _ _ (push-keeps (window_options d.options) d.window ts _ (ltb-false (2 * d.options.window_width + 1) d.window.count e))
 
 module _ (o : Options) (ok : options_refusal o ≡ 0) where

@@ -6,9 +6,8 @@ use Rattle.frame_call.specs.Call.{Call}
 use Rattle.frame_call.specs.Earlier.{none_yet, SumsHold}
 use Rattle.frame_call.proofs.Stretches.{SumsLaws, sums-hold}
 use Rattle.adaptive.specs.declared.Options.{Options}
-use Rattle.adaptive.specs.declared.Answer.{Answer}
 use Rattle.adaptive.specs.Options.{picture_options, options_refusal}
-use Rattle.adaptive.specs.State.{fresh, bad_state, refused_answer, cleared_answer}
+use Rattle.adaptive.specs.State.{Answer, fresh, bad_state, refused_answer, cleared_answer}
 use Rattle.adaptive.specs.Step.{stepped}
 use Rattle.adaptive.proofs.Recomputed.{cleared-sums}
 use Rattle.adaptive_claim.specs.Claim.{adaptive_run}

@@ -1,4 +1,5 @@
 -- THE THEOREM: what `specs/Claim.antt` states holds of every list of adaptive calls under settings that are accepted. Assumes nothing else.
+use Rattle.std.proofs.Common.{Float, None, Option, Some}
 use mathlib.Core.Path.{◌≡◌, refl, ap, ◌∙◌}
 use mathlib.Core.Bool.{Bool, true, false, cond}
 use mathlib.Core.List.{List, [], ◌∷◌}
@@ -8,9 +9,6 @@ use lib.Ieee.{le, of_int, is_nan}
 use borrow.Author.Tests.{eqb-true}
 use Rattle.laws.specs.Lists.{All}
 use Rattle.timestamp.specs.declared.Timestamp.{Timestamp}
-use Rattle.timestamp.specs.declared.MaybeTimestamp.{MaybeTimestamp}
-use Rattle.score.specs.declared.MaybeScore.{MaybeScore}
-use Rattle.score.specs.declared.MaybeScore.TheVariants.{None as no_score, Some as some_score}
 use Rattle.score.specs.Settings.{settings_refusal, any_too_heavy, too_heavy, all_zero}
 use Rattle.scoring.specs.Planes.{Planes}
 use Rattle.filter.specs.Claim.{cuts_in, KeepsDistance}
@@ -23,9 +21,8 @@ use Rattle.frame_call.specs.Run.{run_from}
 use Rattle.frame_call.proofs.Runs.{run-claim, stays as runs-stay}
 use Rattle.adaptive.specs.declared.Options.{Options}
 use Rattle.adaptive.specs.declared.Detector.{Detector}
-use Rattle.adaptive.specs.declared.Answer.{Answer}
 use Rattle.adaptive.specs.Options.{defaults, window_options, options_refusal}
-use Rattle.adaptive.specs.State.{fresh, bad_state, settled}
+use Rattle.adaptive.specs.State.{Answer, fresh, bad_state, settled}
 use Rattle.adaptive.specs.Step.{called}
 use Rattle.adaptive_claim.specs.Claim.{adaptive_run, from_clear_to_clear, AdaptiveClaim}
 use Rattle.adaptive_claim.proofs.Good.{Good, fresh-good, laws}
@@ -35,21 +32,21 @@ abbrev next : Detector → Call → Detector
 next d c = (called d c).answer.detector
 
 -- an answer, before the parts of those after it
-abbrev pub with_answer : Call → MaybeTimestamp → List (List MaybeTimestamp) → List (List MaybeTimestamp)
+abbrev pub with_answer : Call → Option Timestamp → List (List (Option Timestamp)) → List (List (Option Timestamp))
 with_answer c a parts = by_call (λ u w h p ts m. joined_part a parts) ((a ∷ []) ∷ parts) c
 
 -- ---- the run, as `window`'s law sees it: both divide at the clears
 
-not-clear : (d : Detector) (u w h : ℕ) (p : Planes) (ts : Timestamp) (m : Memory) (a : MaybeTimestamp) (xs : List (Answered MaybeTimestamp))
+not-clear : (d : Detector) (u w h : ℕ) (p : Planes) (ts : Timestamp) (m : Memory) (a : Option Timestamp) (xs : List (Answered (Option Timestamp)))
     → window_parts ((frame_view d u w h p ts m brought a) ∷ xs) ≡ joined_part a (window_parts xs)
 not-clear d u w h p ts m a xs = by_zero (eqb (frame_number (bad_state d) u w h m) 0) (after d u w h p ts m).stream.last_score
   where
-    by_zero : (b : Bool) (x : MaybeScore) → window_parts ((cond b (scored_if x ts) refused brought a) ∷ xs) ≡ joined_part a (window_parts xs)
-    by_zero true no_score = refl
-    by_zero true (some_score x) = refl
+    by_zero : (b : Bool) (x : Option Float) → window_parts ((cond b (scored_if x ts) refused brought a) ∷ xs) ≡ joined_part a (window_parts xs)
+    by_zero true None = refl
+    by_zero true (Some x) = refl
     by_zero false x = refl
 
-one-part : (d : Detector) (c : Call) (a : MaybeTimestamp) (xs : List (Answered MaybeTimestamp)) → window_parts ((view_of d c brought a) ∷ xs) ≡ with_answer c a (window_parts xs)
+one-part : (d : Detector) (c : Call) (a : Option Timestamp) (xs : List (Answered (Option Timestamp))) → window_parts ((view_of d c brought a) ∷ xs) ≡ with_answer c a (window_parts xs)
 one-part d (luma plane w h stride ts m) a xs = not-clear d _ _ _ _ ts m a xs
 one-part d (bgr pixels w h stride ts m) a xs = not-clear d _ _ _ _ ts m a xs
 one-part d (hsv hs ss vs w h stride ts m) a xs = not-clear d _ _ _ _ ts m a xs
@@ -64,7 +61,7 @@ module _ (o : Options) (ok : options_refusal o ≡ 0) where
   pub stays : (d : Detector) (c : Call) → Good o d → Good o (next d c)
   stays = runs-stay _ _ _ _ _ _ _ _ (Good o) (laws o ok)
 
-  distance : (cs : List Call) → All (λ (answers : List MaybeTimestamp). KeepsDistance o.min_duration (cuts_in answers)) (from_clear_to_clear (adaptive_run o cs))
+  distance : (cs : List Call) → All (λ (answers : List (Option Timestamp)). KeepsDistance o.min_duration (cuts_in answers)) (from_clear_to_clear (adaptive_run o cs))
   distance cs =
       rw (← seen-is (fresh o) cs)
       (acts-holds next view_of (Good o) stays (window_options o) (λ d c. (called d c).answer.cut) (λ d. d.window) (acts o ok)

@@ -1,22 +1,19 @@
 -- An adaptive call acts on the window as the window's own call does. Assumes nothing.
+use Rattle.std.proofs.Common.{Float, None, Option, Some}
 use mathlib.Core.Path.{◌≡◌, refl, subst}
 use mathlib.Core.Bool.{Bool, true, false, cond}
 use Prim.Native.Nat.{ℕ}
 use lib.Dec.{eqb}
 use Rattle.timestamp.specs.declared.Timestamp.{Timestamp}
-use Rattle.score.specs.declared.MaybeScore.{MaybeScore}
-use Rattle.score.specs.declared.MaybeScore.TheVariants.{None as no_score, Some as some_score}
 use Rattle.scoring.specs.Planes.{Planes}
 use Rattle.window.specs.declared.WindowStep.{WindowStep}
 use Rattle.window.specs.Calls.{WindowCall, refused, unscored, scored, clear as clear_call, turn}
-use Rattle.frame_call.specs.declared.Picture.{Picture}
-use Rattle.frame_call.specs.Call.{Memory, Call, luma, bgr, hsv, clear, by_call, frame_number, accepted, pictured, answered_by}
+use Rattle.frame_call.specs.Call.{PictureAnswer, Memory, Call, luma, bgr, hsv, clear, by_call, frame_number, accepted, pictured, answered_by}
 use Rattle.frame_call.proofs.Runs.{if-accepted, if-refused}
 use Rattle.adaptive.specs.declared.Options.{Options}
 use Rattle.adaptive.specs.declared.Detector.{Detector}
-use Rattle.adaptive.specs.declared.Answer.{Answer}
 use Rattle.adaptive.specs.Options.{window_options, picture_options, options_refusal}
-use Rattle.adaptive.specs.State.{bad_state, refused_answer}
+use Rattle.adaptive.specs.State.{Answer, bad_state, refused_answer}
 use Rattle.adaptive.specs.Step.{window_step, stepped, called}
 use Rattle.adaptive_claim.proofs.Good.{Good, clear-is}
 
@@ -25,21 +22,21 @@ abbrev turned : Answer → WindowStep
 turned a = record { window = a.detector.window; cut = a.cut }
 
 -- a frame that is scored, or is the first of its stretch
-abbrev pub scored_if : MaybeScore → Timestamp → WindowCall
-scored_if no_score ts = unscored
-scored_if (some_score x) ts = scored ts x
+abbrev pub scored_if : Option Float → Timestamp → WindowCall
+scored_if None ts = unscored
+scored_if (Some x) ts = scored ts x
 
 module _ (d : Detector) (u w h : ℕ) (p : Planes) (ts : Timestamp) (m : Memory) where
   -- what the frame brings when it is accepted
-  abbrev pub after : Picture
+  abbrev pub after : PictureAnswer
   after = (accepted d.stream (picture_options d.options) w h p m.store).answer
 
   abbrev pub frame_view : WindowCall
   frame_view = cond (eqb (frame_number (bad_state d) u w h m) 0) (scored_if after.stream.last_score ts) refused
 
-  step-acts : (x : MaybeScore) → turn (window_options d.options) d.window (scored_if x ts) ≡ window_step d.options d.window ts x
-  step-acts no_score = refl
-  step-acts (some_score x) = refl
+  step-acts : (x : Option Float) → turn (window_options d.options) d.window (scored_if x ts) ≡ window_step d.options d.window ts x
+  step-acts None = refl
+  step-acts (Some x) = refl
 
   accepted-acts : turn (window_options d.options) d.window (scored_if after.stream.last_score ts) ≡ turned (stepped d ts after)
   unfolding stepped

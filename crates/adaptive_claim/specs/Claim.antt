@@ -1,23 +1,22 @@
 -- What holds of every list of adaptive calls under settings that are accepted: from `clear` to `clear` the cuts keep the distance, over changes
 -- of size too, whatever the stamps do (RULES 14.12).
-use Rattle.std.specs.Prelude.{◌≡◌, List, [], ◌∷◌}
+use Rattle.std.specs.Prelude.{◌≡◌, List, [], ◌∷◌, Option}
 use Rattle.laws.specs.Lists.{All}
-use Rattle.timestamp.specs.declared.MaybeTimestamp.{MaybeTimestamp}
 use Rattle.filter.specs.Claim.{cuts_in, KeepsDistance}
 use Rattle.window.specs.Claim.{joined_part}
 use Rattle.frame_call.specs.Call.{Call, by_call}
 use Rattle.frame_call.specs.Run.{MadeCall, run_from, RunClaim}
 use Rattle.adaptive.specs.declared.Options.{Options}
-use Rattle.adaptive.specs.declared.Answer.{Answer}
-use Rattle.adaptive.specs.State.{fresh, settled}
+use Rattle.adaptive.specs.State.{Answer, fresh, settled}
 use Rattle.adaptive.specs.Step.{called}
+use Rattle.timestamp.specs.declared.Timestamp.{Timestamp}
 
 -- the calls of a list, from a fresh state (RULES 14.5)
 abbrev pub adaptive_run : Options → List Call → List (MadeCall Answer)
 adaptive_run o calls = run_from called (λ (a : Answer). a.detector) (fresh o) calls
 
 -- the cuts or none that the calls returned, in parts from `clear` to `clear`: a `clear` ends its part (RULES 14.12)
-abbrev pub from_clear_to_clear : List (MadeCall Answer) → List (List MaybeTimestamp)
+abbrev pub from_clear_to_clear : List (MadeCall Answer) → List (List (Option Timestamp))
 from_clear_to_clear [] = [] ∷ []
 from_clear_to_clear (x ∷ xs) =
     let cut = x.outcome.answer.cut in
@@ -31,4 +30,4 @@ pub record AdaptiveClaim (o : Options) (calls : List Call) : Type 0 where
   -- (RULES 14.6)
   pub each-call : RunClaim called (λ (a : Answer). a.detector) (λ (a : Answer). a.number) (fresh o) calls
   -- from `clear` to `clear` each cut is at least the minimum past the one before (RULES 14.12)
-  pub distance : All (λ (answers : List MaybeTimestamp). KeepsDistance o.min_duration (cuts_in answers)) (from_clear_to_clear (adaptive_run o calls))
+  pub distance : All (λ (answers : List (Option Timestamp)). KeepsDistance o.min_duration (cuts_in answers)) (from_clear_to_clear (adaptive_run o calls))

@@ -1,5 +1,2 @@
-pub mod Places
-pub mod Made
-pub mod Reading
 pub mod Writing
 pub mod Refused

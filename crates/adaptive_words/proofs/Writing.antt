@@ -41,9 +41,9 @@ unfolding scores_words
 scores-length l = length-tabulate 129 _
 
 -- how many words a record has
-pub words-length : (d : Detector) → length (adaptive_words d) ≡ 288
+pub words_length : (d : Detector) → length (adaptive_words d) ≡ 288
 unfolding adaptive_words
-words-length d =
+words_length d =
     simp length-append (omega (arith, options-length d.options, stream-length d.stream, window-length d.window, stamps-length d.window.stamps, scores-length d.window.scores))
 
 module _ (d : Detector) (a b c s x : List ℕ)

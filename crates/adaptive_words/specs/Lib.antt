@@ -1,3 +1,4 @@
 pub mod Options
 pub mod Window
 pub mod Record
+pub mod Calls

@@ -1,10 +1,9 @@
 -- The adaptive detector's record in 288 words: settings, stream, window, the window's stamps and its scores (RULES 15.1, 15.4).
-use Rattle.std.specs.Prelude.{Bool, cond, ◌&&◌, List, ◌++◌, ℕ, take, drop}
+use Rattle.std.specs.Prelude.{Bool, cond, ◌&&◌, List, ◌++◌, ℕ, take, drop, None}
 use Rattle.adaptive.specs.declared.Detector.{Detector}
 use Rattle.adaptive.specs.Options.{defaults, options}
 use Rattle.adaptive.specs.State.{fresh}
 use Rattle.stream.specs.Stream.{components_shown}
-use Rattle.score.specs.declared.MaybeComponents.TheVariants.{None as no_components}
 use Rattle.words.specs.Stream.{stream_words, is_stream, stream_of}
 use Rattle.adaptive_words.specs.Options.{options_words, is_options, options_of}
 use Rattle.adaptive_words.specs.Window.{window_words, is_window, window_of, stamps_words, stamps_of, scores_words, scores_of}
@@ -28,7 +27,7 @@ foreign =
     defaults.min_duration
     defaults.window_width
     defaults.min_content_val
-    (components_shown no_components)
+    (components_shown None)
     defaults.kernel_size
     defaults.initial_cut)
 

@@ -70,6 +70,7 @@ fn parts(b: u8, g: u8, r: u8) -> Measured
 }
 
 // One pixel.
+// Kept: RULES 3 calls the three bytes B, G and R; an array would only number them.
 #[tactic(auto, using(crate::proofs::ByCases::of_parts))]
 pub fn bgr_to_hsv_pixel(b: u8, g: u8, r: u8) -> Hsv
     ensures { result ≡ hsv_of b g r }
@@ -102,6 +103,7 @@ impl Block {
         ensures k { FirstAre (of_pixel sixths row.now) (length row.now / 3) self.new.k }
     {
         let (pixels, _) = row.as_chunks::<3>();
+        // Kept: three arrays are written at one place, so by an index and not by three iterators.
         for (x, [b, g, r]) in pixels.iter().enumerate() {
             let p = parts(*b, *g, *r);
             self.v[x] = p.v;
@@ -119,6 +121,7 @@ impl Block {
         requires by_index { (x : ℕ) → x < m → Bounded self.now.v self.now.d self.now.k x }
         ensures { out.new ≡ parts_stored out.old self.now.v self.now.d self.now.k first n m }
     {
+        // Kept: three arrays are read and three planes written at one place.
         for x in 0..m {
             let a = first + x;
             out[a] = hue(divider, self.k[x], self.d[x]);
@@ -129,6 +132,7 @@ impl Block {
 }
 
 // The pixels of row, stored from place first of the three planes of n bytes, 256 of them at a time.
+// Kept: the place and n are of the output, not of the row, whose length is its own.
 fn bgr_to_hsv_row(divider: &Divider, out: &mut [u8], row: &[u8], first: usize, n: usize)
     requires out_len { length out.old ≡ 3 * n }
     requires whole { length row.now ≡ 3 * (length row.now / 3) }
@@ -141,6 +145,7 @@ fn bgr_to_hsv_row(divider: &Divider, out: &mut [u8], row: &[u8], first: usize, n
         k: [0; 256],
     };
     let mut at = first;
+    // Kept: the place beside the parts: by `enumerate` it would be counted in blocks.
     for part in row.chunks(768) {
         let m = part.len() / 3;
         block.measure(part);
@@ -156,6 +161,7 @@ pub fn bgr_to_hsv_planes(out: &mut [u8], src: &[u8], w: usize, h: usize, stride:
     ensures { out.new ≡ hsv_planes src.now w h stride }
 {
     let divider = Divider::new();
+    // Kept: rows by their places: `chunks_exact` refuses a stride of 0, and rows of `src` may overlap.
     for y in 0..h {
         let from = y * stride;
         bgr_to_hsv_row(&divider, out, &src[from..from + 3 * w], y * w, w * h);

@@ -1,4 +1,5 @@
 // Planes of bytes: rows of a strided plane packed, and how much two planes differ.
+// Kept, point 5: plain parameters, as the functions under the frame records have (RULES 16.1).
 #![tactic(auto)]
 
 ghost use Rattle.std.specs.Prelude.{◌≡◌, ℕ, ◌+◌, ◌*◌, ◌^◌, ◌<◌, ◌≤◌, length};
@@ -14,14 +15,6 @@ pub struct PlaneDifference {
     pub mean: f64,
 }
 
-// dst becomes src.
-pub fn copy_row(dst: &mut [u8], src: &[u8])
-    requires { length dst.old ≡ length src.now }
-    ensures { dst.new ≡ src.now }
-{
-    dst.copy_from_slice(src);
-}
-
 // Packs h rows of w bytes into dst, which is w * h bytes long, from parts of src: row y is the part that starts at
 // y * stride. All of dst is written, and nothing else.
 pub fn copy_plane(dst: &mut [u8], src: &[u8], w: usize, h: usize, stride: usize)
@@ -29,6 +22,7 @@ pub fn copy_plane(dst: &mut [u8], src: &[u8], w: usize, h: usize, stride: usize)
     requires by_index { (y : ℕ) → y < h → y * stride + w ≤ length src.now }
     ensures { dst.new ≡ packed src.now w h stride }
 {
+    // Kept: rows by their places: `chunks_exact_mut` refuses a width of 0, and rows of `src` may overlap.
     for y in 0..h {
         let start = y * w;
         let from = y * stride;

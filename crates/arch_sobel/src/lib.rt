@@ -1,4 +1,5 @@
 // The Sobel operator over a plane of bytes, `sobel` of arch.rs.
+// Kept, point 5: plain parameters, as the functions under the frame records have (RULES 16.1).
 #![tactic(auto)]
 
 ghost use Rattle.std.specs.Prelude.{◌≡◌, ◌+◌, ◌*◌, ◌<◌, ◌≤◌, nat_abs, length};
@@ -27,7 +28,7 @@ fn grad(s: &[u8], i: usize, step: usize, other: usize) -> i32
 }
 
 // |g|.
-// Kept: by a rule of the project the size of a gradient is a negation in the code, and not a call of `unsigned_abs`.
+// Kept: RULES 16.1 wants the size of a gradient as a negation, and no call of `unsigned_abs`.
 fn size(g: i32) -> u32
     requires { nat_abs g ≤ 1020 }
     ensures { result ≡ nat_abs g }
@@ -36,6 +37,7 @@ fn size(g: i32) -> u32
 }
 
 // The direction of a gradient, by its sizes and then by its signs.
+// Kept: a number, since the directions are a plane of lent bytes (RULES 12.1).
 fn direction(gx: i32, gy: i32) -> u8
     requires gx_bound { nat_abs gx ≤ 1020 }
     requires gy_bound { nat_abs gy ≤ 1020 }
@@ -56,6 +58,7 @@ struct Edge {
 }
 
 // A plane of bytes of w columns and h rows, row after row.
+// Kept: beside that of `canny_thin`: one is of bytes, the other of magnitudes with two marks; they share the two sides alone.
 #[derive(Drop)]
 struct Plane<'a> {
     bytes: &'a [u8],
@@ -64,6 +67,7 @@ struct Plane<'a> {
     ghost packed: { length bytes.now ≡ w * h },
 }
 
+// Kept, point 2: beside the rows of `canny_thin`: these write two planes, and those one in place.
 impl Plane<'_> {
     // What the two planes have at an inner place.
     fn edge_at(&self, x: usize, y: usize) -> Edge
@@ -95,6 +99,7 @@ impl Plane<'_> {
         let last = self.w - 1;
         mag[0] = 0;
         dir[0] = 0;
+        // Kept: two rows are written, and three are read about a place: an index says it plainer than five iterators.
         for x in 1..last {
             let e = self.edge_at(x, y);
             mag[x] = e.mag;
@@ -130,6 +135,7 @@ pub fn sobel(input: &[u8], mag: &mut [i32], dir: &mut [u8], w: usize, h: usize)
     ensures dir_after { dir.new ≡ sobel_dir input.now w h }
 {
     let plane = Plane { bytes: input, w, h };
+    // Kept: rows by their places: `chunks_exact_mut` refuses a width of 0.
     for y in 0..h {
         let start = y * w;
         let end = start + w;

@@ -1,4 +1,5 @@
 // The edge plane of a luma plane: `compute_edges`.
+// Kept, point 5: plain parameters, as the functions under the frame records have (RULES 16.1).
 #![tactic(auto)]
 
 ghost use Rattle.std.specs.Prelude.{◌≡◌, ◌*◌, ◌≤◌, length};

@@ -1,4 +1,5 @@
 // Hysteresis: from a plane of weak (1) and strong (2) pixels to the plane of those that are strong after two rounds of sweeps.
+// Kept, point 1: the classes are numbers, since they are a plane of lent bytes (RULES 12.1).
 #![tactic(auto)]
 
 ghost use Rattle.std.specs.Prelude.{◌≡◌, map, ◌+◌, ◌*◌, ◌^◌, ◌<◌, ◌≤◌, length, All};
@@ -59,7 +60,7 @@ fn visit_place(s: &mut [u8], i: usize, beside: [usize; 4])
 
 // The inner places of row y.
 // Kept: the sides go beside the plane, and its length is a clause of `sweep` and of `hysteresis`. As a struct with a ghost field for the length
-// (tried), the plane is written through, so each sweep's contract and loop has to say that the sides stay: more clauses, not fewer.
+// (its contracts were written, not proved), the plane is written through, so each sweep's contract and loop has to say that the sides stay: more clauses, not fewer.
 fn sweep_row(s: &mut [u8], w: usize, y: usize, way: Way)
     requires { (1 ≤ y) × ((y + 1) * w + w ≤ length s.old) }
     ensures { s.new ≡ sweep_row (beside way) (order way) w y s.old }

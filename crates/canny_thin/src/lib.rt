@@ -1,4 +1,5 @@
 // Thinning and classes: from the magnitude and direction planes to the plane of pixels that are weak (1), strong (2) or neither (0).
+// Kept, point 5: plain parameters, as the functions under the frame records have (RULES 16.1).
 #![tactic(auto)]
 
 ghost use Rattle.std.specs.Prelude.{◌≡◌, cond, ◌+◌, ◌*◌, ◌<◌, ◌≤◌, length, get_or};
@@ -24,6 +25,7 @@ fn keeps_by(mag: &[i32], i: usize, s: usize) -> bool
 
 // Whether the pixel at place i stays along its direction. All four are tried, the neighbours being 1, w + 1, w and w - 1 places on and
 // back, and one is picked: so a loop over places has the same reads at each, and the compiler works several at a time.
+// Kept: all four ways are tried and one is picked, without a branch, for speed: a closure or an enum would branch.
 fn keeps_along(mag: &[i32], w: usize, dir: u8, i: usize) -> bool
     requires { (0 < w) × ((w + 1 ≤ i) × (i + (w + 1) < length mag.now)) }
     ensures { result ≡ stays_along mag.now w dir i }
@@ -40,6 +42,7 @@ fn keeps_along(mag: &[i32], w: usize, dir: u8, i: usize) -> bool
 }
 
 // The class of a pixel that stays, else 0. A sum and no branches.
+// Kept: a number, since the classes are a plane of lent bytes (RULES 12.1).
 fn class_of(stay: bool, m: i32, low: u8, high: u8) -> u8
     ensures { result ≡ cond stay (class_of low high m) 0 }
 {
@@ -49,6 +52,7 @@ fn class_of(stay: bool, m: i32, low: u8, high: u8) -> u8
 }
 
 // A plane of magnitudes of w columns and h rows, and the marks of its classes.
+// Kept: beside that of `arch_sobel`, of magnitudes and marks and not of bytes.
 #[derive(Clone, Copy)]
 struct Plane<'a> {
     mag: &'a [i32],
@@ -59,6 +63,7 @@ struct Plane<'a> {
     ghost packed: { length mag.now ≡ w * h },
 }
 
+// Kept, point 2: beside the rows of `arch_sobel`: these write one plane in place, and those two.
 impl Plane<'_> {
     // The class at an inner place of direction dir.
     fn class_at(&self, dir: u8, x: usize, y: usize) -> u8
@@ -79,6 +84,7 @@ impl Plane<'_> {
     {
         let last = self.w - 1;
         row[0] = 0;
+        // Kept: three rows are read about a place: an index says it plainer than iterators.
         for x in 1..last {
             row[x] = self.class_at(row[x], x, y);
         }
@@ -111,6 +117,7 @@ pub fn non_max_suppress(mag: &[i32], dir: &mut [u8], w: usize, h: usize, low: u8
         low,
         high,
     };
+    // Kept: rows by their places: `chunks_exact_mut` refuses a width of 0.
     for y in 0..h {
         let start = y * w;
         plane.row(&mut dir[start..start + w], y);

@@ -8,7 +8,7 @@ use Rattle.window.specs.declared.Window.{Window}
 use Rattle.adaptive.specs.declared.Options.{Options}
 use Rattle.adaptive.specs.declared.Detector.{Detector}
 use Rattle.adaptive.specs.Options.{options}
-use Rattle.compare_lists.specs.Records.{byte_of, threshold_of, weights_of, kernel_of, minimum_of, initial_cut_of, is_foreign, too_high}
+use Rattle.compare_lists.specs.Records.{byte_of, threshold_of, weights_of, kernel_of, minimum_of, initial_cut_of, too_high}
 
 -- the window that is not v + 1, by v: 0 for 0, 65 for 1, 2^32 - 1 for 2, 64 for 3, otherwise v % 4 + 1
 unfoldable pub odd_window : ℕ → ℕ
@@ -73,7 +73,3 @@ spoiled_by d how =
     (eqb how 1)
     (record { options = d.options; stream = too_high d.stream; window = d.window })
     (record { options = refused_by d.options how; stream = d.stream; window = d.window }))
-
--- the state that call i is handed: where r[13] % 32 is 1, a bad record by r[14] % 6
-unfoldable pub given_to : Detector → List ℕ → ℕ → Detector
-given_to d s i = cond (is_foreign s i) (spoiled_by d (byte_of s i 14 % 6)) d

@@ -1,48 +1,44 @@
 // Settings and state records of an adaptive detector from the bytes of a list.
+// Kept, point 7: how a record is bad is a byte of the list's record, whose values compare/README.md gives.
 ghost use Rattle.std.specs.Prelude.{◌≡◌};
-ghost use Rattle.compare_lists.specs.Records.{kept_after};
-ghost use Rattle.compare_adaptive_lists.specs.State.{window_of, settings_of, is_clear, refused_by, spoiled_by, given_to};
+ghost use Rattle.compare_adaptive_lists.specs.State.{window_of, settings_of, is_clear, refused_by, spoiled_by};
 
-use adaptive::{Answer, Detector, Options};
-use compare_lists::input;
+use adaptive::{Detector, Options};
+use compare_lists::input::{self, Record};
 
 // Small windows fill often; every width to 64 occurs, and widths that are refused.
+#[tactic(auto, unfolding(crate::specs::State::window_of, crate::specs::State::odd_window))]
 fn window_width(b: u32) -> u32
     ensures { result ≡ window_of b }
 {
     let v = b / 4;
     if b % 2 == 1 {
-        return v + 1;
+        v + 1
+    } else {
+        match v {
+            0 => 0,
+            1 => 65,
+            2 => u32::MAX,
+            3 => 64,
+            _ => v % 4 + 1,
+        }
     }
-    if v == 0 {
-        return 0;
-    }
-    if v == 1 {
-        return 65;
-    }
-    if v == 2 {
-        return 4294967295;
-    }
-    if v == 3 {
-        return 64;
-    }
-    v % 4 + 1
 }
 
 pub fn settings(script: &[u8]) -> Options
     ensures { result ≡ settings_of script.now }
 {
-    let weights = input::weights(script);
-    let kernel = input::kernel(script);
-    let ratio = input::byte(script, 0, 1) as f64 / 64.0;
-    let least = input::byte(script, 0, 15) as f64 / 4.0 - 16.0;
+    // Kept: the settings are in the record at place 0, which is made where it is read.
+    let r = Record { script, i: 0 };
+    let ratio = r.byte(1) as f64 / 64.0;
+    let least = r.byte(15) as f64 / 4.0 - 16.0;
     Options {
-        adaptive_threshold: input::threshold(input::byte(script, 0, 0) % 32, ratio),
+        adaptive_threshold: input::threshold(r.byte(0) % 32, ratio),
         min_duration: input::minimum(script),
-        window_width: window_width(input::byte(script, 0, 7)),
-        min_content_val: input::threshold(input::byte(script, 0, 14) % 32, least),
-        weights: weights,
-        kernel_size: kernel,
+        window_width: window_width(r.byte(7)),
+        min_content_val: input::threshold(r.byte(14) % 32, least),
+        weights: input::weights(script),
+        kernel_size: input::kernel(script),
         initial_cut: input::initial_cut(script),
     }
 }
@@ -52,75 +48,31 @@ pub fn settings(script: &[u8]) -> Options
 pub fn is_clear(kind: u32, b: u32) -> bool
     ensures { result ≡ is_clear kind b }
 {
-    if kind == 0 {
-        return b % 4 == 0;
-    }
-    false
+    kind == 0 && b % 4 == 0
 }
 
 // Options that are refused: a NaN, or a window of 0 or 65.
+#[tactic(auto, unfolding(crate::specs::State::refused_by))]
 fn refused(o: Options, how: u32) -> Options
     ensures { result ≡ refused_by o how }
 {
-    if how == 2 {
-        return o.with_adaptive_threshold(0.0 / 0.0);
+    match how {
+        2 => o.with_adaptive_threshold(f64::NAN),
+        3 => o.with_min_content_val(f64::NAN),
+        4 => o.with_window_width(0),
+        _ => o.with_window_width(65),
     }
-    if how == 3 {
-        return o.with_min_content_val(0.0 / 0.0);
-    }
-    if how == 4 {
-        return o.with_window_width(0);
-    }
-    o.with_window_width(65)
 }
 
 // A bad record: a count over that of a full window, a side too large, or settings that are refused.
-fn spoiled(d: Detector, how: u32) -> Detector
+#[tactic(auto, unfolding(crate::specs::State::spoiled_by))]
+pub fn spoiled(mut d: Detector, how: u32) -> Detector
     ensures { result ≡ spoiled_by d how }
 {
-    let options = d.options;
-    let mut stream = d.stream;
-    let mut window = d.window;
-    if how == 0 {
-        window.count = 2 * (options.window_width as usize) + 2;
-        return Detector {
-            options: options,
-            stream: stream,
-            window: window,
-        };
-    }
-    if how == 1 {
-        stream.height = 4097;
-        return Detector {
-            options: options,
-            stream: stream,
-            window: window,
-        };
-    }
-    let bad = refused(options, how);
-    Detector {
-        options: bad,
-        stream: stream,
-        window: window,
-    }
-}
-
-// The state that call i is handed.
-pub fn given(d: Detector, script: &[u8], i: usize) -> Detector
-    ensures { result ≡ given_to d script.now i }
-{
-    if input::is_foreign(script, i) {
-        return spoiled(d, input::byte(script, i, 14) % 6);
+    match how {
+        0 => d.window.count = 2 * (d.options.window_width as usize) + 2,
+        1 => d.stream.height = 4097,
+        _ => d.options = refused(d.options, how),
     }
     d
-}
-
-// The state after call i: what it returned, or the one before it where it was handed a bad record.
-pub fn kept(d: Detector, answer: Answer, script: &[u8], i: usize) -> Detector
-    ensures { result ≡ kept_after d answer.detector script.now i }
-{
-    if input::is_foreign(script, i) {
-        return d;
-    }
-    answer.detector
 }

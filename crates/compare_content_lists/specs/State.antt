@@ -1,17 +1,16 @@
 -- The settings of a list of content calls, and the state that each call is handed (compare/README.md, "Lists of content calls"): a part of the
 -- comparison with the Rust (RULES 14.3). r[k] is byte k of the record, which for settings is record 0 and for a call its own.
-use Rattle.std.specs.Prelude.{true, cond, List, ℕ, ◌%◌, eqb}
+use Rattle.std.specs.Prelude.{true, cond, List, ℕ, ◌%◌, eqb, None}
 use Rattle.std.specs.Float.{nan, binary64}
 use Rattle.std.specs.Float.Ieee.{div}
 use Rattle.laws.specs.Floats.{float}
-use Rattle.timestamp.specs.declared.MaybeTimestamp.TheVariants.{None}
 use Rattle.filter.specs.declared.Filter.{Filter}
 use Rattle.filter.specs.declared.FilterMode.{FilterMode}
 use Rattle.filter.specs.declared.FilterMode.TheVariants.{Suppress, Merge}
 use Rattle.content.specs.declared.Options.{Options}
 use Rattle.content.specs.declared.Detector.{Detector}
 use Rattle.content.specs.Options.{options}
-use Rattle.compare_lists.specs.Records.{byte_of, threshold_of, weights_of, kernel_of, minimum_of, initial_cut_of, is_foreign, too_high}
+use Rattle.compare_lists.specs.Records.{byte_of, threshold_of, weights_of, kernel_of, minimum_of, initial_cut_of, too_high}
 
 -- the filter mode of a byte b: Suppress where it is even, otherwise Merge
 unfoldable pub mode_of : ℕ → FilterMode
@@ -47,7 +46,3 @@ spoiled_by d how =
     (eqb how 1)
     (record { options = d.options; stream = too_high d.stream; filter = d.filter })
     (record { options = without_threshold d.options; stream = d.stream; filter = d.filter }))
-
--- the state that call i is handed: where r[13] % 32 is 1, a bad record by r[14] % 3
-unfoldable pub given_to : Detector → List ℕ → ℕ → Detector
-given_to d s i = cond (is_foreign s i) (spoiled_by d (byte_of s i 14 % 3)) d

@@ -1,36 +1,36 @@
 // Settings and state records of a content detector from the bytes of a list.
+// Kept, point 7: how a record is bad is a byte of the list's record, whose values compare/README.md gives.
 ghost use Rattle.std.specs.Prelude.{◌≡◌};
-ghost use Rattle.compare_lists.specs.Records.{kept_after};
-ghost use Rattle.compare_content_lists.specs.State.{mode_of, settings_of, triggered_of, spoiled_by, given_to};
+ghost use Rattle.compare_content_lists.specs.State.{mode_of, settings_of, triggered_of, spoiled_by};
 
-use compare_lists::input;
-use content::{Answer, Detector, Options};
+use compare_lists::input::{self, Record};
+use content::{Detector, Options};
 use filter::{Filter, FilterMode};
-use timestamp::MaybeTimestamp;
 
+// Kept: replay_filter reads a byte so too, by a definition of its own, and the crate that both stand on knows no filter.
 #[tactic(auto, unfolding(crate::specs::State::mode_of))]
 fn filter_mode(b: u32) -> FilterMode
     ensures { result ≡ mode_of b }
 {
     if b % 2 == 0 {
-        return FilterMode::Suppress;
+        FilterMode::Suppress
+    } else {
+        FilterMode::Merge
     }
-    FilterMode::Merge
 }
 
 pub fn settings(script: &[u8]) -> Options
     ensures { result ≡ settings_of script.now }
 {
-    let components = input::weights(script);
-    let mode = filter_mode(input::byte(script, 0, 7));
-    let kernel = input::kernel(script);
-    let other = input::byte(script, 0, 1) as f64 / 4.0;
+    // Kept: the settings are in the record at place 0, which is made where it is read.
+    let r = Record { script, i: 0 };
+    let other = r.byte(1) as f64 / 4.0;
     Options {
-        threshold: input::threshold(input::byte(script, 0, 0) % 32, other),
+        threshold: input::threshold(r.byte(0) % 32, other),
         min_duration: input::minimum(script),
-        weights: components,
-        filter_mode: mode,
-        kernel_size: kernel,
+        weights: input::weights(script),
+        filter_mode: filter_mode(r.byte(7)),
+        kernel_size: input::kernel(script),
         initial_cut: input::initial_cut(script),
     }
 }
@@ -39,62 +39,22 @@ pub fn settings(script: &[u8]) -> Options
 fn triggered(f: Filter) -> Filter
     ensures { result ≡ triggered_of f }
 {
-    let last = f.last_above;
     Filter {
-        last_above: last,
-        merge_enabled: f.merge_enabled,
         merge_triggered: true,
-        merge_start: MaybeTimestamp::None,
+        merge_start: None,
+        ..f
     }
 }
 
 // A bad record: a merge triggered without its start, a side too large, or a NaN threshold.
-fn spoiled(d: Detector, how: u32) -> Detector
+#[tactic(auto, unfolding(crate::specs::State::spoiled_by))]
+pub fn spoiled(mut d: Detector, how: u32) -> Detector
     ensures { result ≡ spoiled_by d how }
 {
-    let options = d.options;
-    let filter = d.filter;
-    let mut stream = d.stream;
-    if how == 0 {
-        let bad = triggered(filter);
-        return Detector {
-            options: options,
-            stream: stream,
-            filter: bad,
-        };
-    }
-    if how == 1 {
-        stream.height = 4097;
-        return Detector {
-            options: options,
-            stream: stream,
-            filter: filter,
-        };
-    }
-    let bad = options.with_threshold(0.0 / 0.0);
-    Detector {
-        options: bad,
-        stream: stream,
-        filter: filter,
-    }
-}
-
-// The state that call i is handed.
-pub fn given(d: Detector, script: &[u8], i: usize) -> Detector
-    ensures { result ≡ given_to d script.now i }
-{
-    if input::is_foreign(script, i) {
-        return spoiled(d, input::byte(script, i, 14) % 3);
+    match how {
+        0 => d.filter = triggered(d.filter),
+        1 => d.stream.height = 4097,
+        _ => d.options.threshold = f64::NAN,
     }
     d
-}
-
-// The state after call i: what it returned, or the one before it where it was handed a bad record.
-pub fn kept(d: Detector, answer: Answer, script: &[u8], i: usize) -> Detector
-    ensures { result ≡ kept_after d answer.detector script.now i }
-{
-    if input::is_foreign(script, i) {
-        return d;
-    }
-    answer.detector
 }

@@ -1,11 +1,9 @@
 -- What the functions for other languages answer, and what they leave in a lent buffer.
-use Rattle.std.specs.Prelude.{Bool, cond, not, ◌&&◌, List, [], ◌∷◌, ℕ, ◌+◌, ◌*◌, ◌^◌, eqb, leb, length}
+use Rattle.std.specs.Prelude.{Bool, cond, not, ◌&&◌, List, [], ◌∷◌, ℕ, ◌+◌, ◌*◌, ◌^◌, eqb, leb, length, None, Option, Some}
 use Rattle.std.specs.Float.{binary64}
 use Rattle.std.specs.Float.Ieee.{to_bits}
 use Rattle.arch_planes.specs.Difference.{mean_abs_diff}
-use Rattle.timestamp.specs.declared.Since.{Since}
-use Rattle.timestamp.specs.declared.Since.TheVariants.{Earlier, Micros}
-use Rattle.frame.specs.Refusal.{first_that}
+use Rattle.refusal.specs.Refusal.{first_that}
 
 -- a frame's refusal; else 12 where a buffer's length is not that of the result; else 0
 unfoldable pub number : ℕ → Bool → ℕ
@@ -30,11 +28,11 @@ abbrev pub packed24 : ℕ → ℕ → ℕ → ℕ
 packed24 h s v = h * 65536 + s * 256 + v
 
 -- the microseconds, and 0 of an earlier stamp
-abbrev pub micros_of : Since → ℕ
-micros_of Earlier = 0
-micros_of (Micros n) = n
+abbrev pub micros_of : Option ℕ → ℕ
+micros_of None = 0
+micros_of (Some n) = n
 
 -- 1 of an earlier stamp
-abbrev pub earlier_of : Since → ℕ
-earlier_of Earlier = 1
-earlier_of (Micros n) = 0
+abbrev pub earlier_of : Option ℕ → ℕ
+earlier_of None = 1
+earlier_of (Some n) = 0

@@ -1,5 +1,7 @@
 // The leaves, callable from other languages: compare/ holds them against the Rust. A slice passes as a pointer and then a length.
 // Nothing is asked of a caller: what a leaf requires is tested here, and a call that fails the test writes nothing.
+// Kept, point 1: the C interface returns a refusal's number, or 0.
+// Kept, point 2: each C name is a function of its own, with the tests of its own lengths.
 #![tactic(auto)]
 
 ghost use Rattle.std.specs.Prelude.{◌≡◌, ◌&&◌, ◌*◌, ◌<◌, eqb, length};
@@ -15,25 +17,32 @@ ghost use Rattle.timestamp.specs.Stamps.{duration_since, saturating_sub};
 ghost use Rattle.compare_exports.specs.Guard.{number, after, difference_of, packed24, micros_of, earlier_of};
 ghost use Rattle.compare_lists.specs.Wrote.{Wrote};
 
-use timestamp::{Since, Timestamp};
+use std::num::f64_to_bits_with_nan;
+use timestamp::Timestamp;
+
+// The answer where a lent buffer's length is not that of the result.
+const OTHER_LENGTH: u32 = 12;
 
 // The check of a luma frame.
+// Kept: a plane, its sides and its stride by themselves, here and below: the C interface passes slices and numbers, and no structs of the library's.
 #[unsafe(no_mangle)]
 pub extern "C" fn mw_check_luma(plane: &[u8], width: u32, height: u32, stride: u32) -> u32
     ensures { result ≡ luma_refusal (length plane.now) width height stride }
 {
-    frame::check_luma(plane, width, height, stride)
+    replay::number(frame::check_luma(plane, width, height, stride))
 }
 
 // The check of a BGR frame.
+// Kept: pixels, sides and stride by themselves, for the C interface.
 #[unsafe(no_mangle)]
 pub extern "C" fn mw_check_bgr(pixels: &[u8], width: u32, height: u32, stride: u32) -> u32
     ensures { result ≡ bgr_refusal (length pixels.now) width height stride }
 {
-    frame::check_bgr(pixels, width, height, stride)
+    replay::number(frame::check_bgr(pixels, width, height, stride))
 }
 
 // The check of an HSV frame.
+// Kept: planes, sides and stride by themselves, for the C interface.
 #[unsafe(no_mangle)]
 pub extern "C" fn mw_check_hsv(
     hue: &[u8],
@@ -45,10 +54,11 @@ pub extern "C" fn mw_check_hsv(
 ) -> u32
     ensures { result ≡ hsv_refusal (length hue.now) (length saturation.now) (length value.now) width height stride }
 {
-    frame::check_hsv(hue, saturation, value, width, height, stride)
+    replay::number(frame::check_hsv(hue, saturation, value, width, height, stride))
 }
 
 // Packs the rows of a luma plane into out, whose length is width * height.
+#[tactic(auto, using(refusal::proofs::Numbers::positive, crate::proofs::Guarded::refused, crate::proofs::Guarded::done_one, crate::proofs::Guarded::misfit_one))]
 #[unsafe(no_mangle)]
 pub extern "C" fn mw_copy_plane(
     out: &mut [u8],
@@ -60,20 +70,21 @@ pub extern "C" fn mw_copy_plane(
     ensures value { result ≡ number (luma_refusal (length plane.now) width height stride) (eqb (length out.old) (width * height)) }
     ensures out_after { out.new ≡ after result (packed plane.now width height stride) out.old }
 {
-    let refusal = frame::luma_refusal(plane.len(), width, height, stride);
-    if 0 < refusal {
-        return refusal;
+    if let Err(refusal) = frame::check_luma(plane, width, height, stride) {
+        return refusal.number();
     }
     let w = width as usize;
     let h = height as usize;
-    if out.len() == w * h {
-        arch_planes::copy_plane(out, plane, w, h, stride as usize);
-        return 0;
+    if out.len() != w * h {
+        return OTHER_LENGTH;
     }
-    12
+    arch_planes::copy_plane(out, plane, w, h, stride as usize);
+    0
 }
 
 // One pixel: hue * 65536 + saturation * 256 + value.
+// Kept: three bytes by themselves, for the C interface.
+#[tactic(auto, unfolding(arch_hsv::specs::Hsv::hsv_of))]
 #[unsafe(no_mangle)]
 pub extern "C" fn mw_bgr_to_hsv_pixel(b: u8, g: u8, r: u8) -> u32
     ensures { result ≡ packed24 (hue b g r) (saturation b g r) (value b g r) }
@@ -83,6 +94,7 @@ pub extern "C" fn mw_bgr_to_hsv_pixel(b: u8, g: u8, r: u8) -> u32
 }
 
 // The hue, saturation and value planes of a BGR frame, one after the other in out, whose length is 3 * width * height.
+#[tactic(auto, using(refusal::proofs::Numbers::positive, crate::proofs::Guarded::refused, crate::proofs::Guarded::done_one, crate::proofs::Guarded::misfit_one))]
 #[unsafe(no_mangle)]
 pub extern "C" fn mw_bgr_to_hsv_planes(
     out: &mut [u8],
@@ -94,31 +106,32 @@ pub extern "C" fn mw_bgr_to_hsv_planes(
     ensures value { result ≡ number (bgr_refusal (length pixels.now) width height stride) (eqb (length out.old) (3 * (width * height))) }
     ensures out_after { out.new ≡ after result (hsv_planes pixels.now width height stride) out.old }
 {
-    let refusal = frame::bgr_refusal(pixels.len(), width, height, stride);
-    if 0 < refusal {
-        return refusal;
+    if let Err(refusal) = frame::check_bgr(pixels, width, height, stride) {
+        return refusal.number();
     }
     let w = width as usize;
     let h = height as usize;
-    if out.len() == 3 * (w * h) {
-        arch_hsv::bgr_to_hsv_planes(out, pixels, w, h, stride as usize);
-        return 0;
+    if out.len() != 3 * (w * h) {
+        return OTHER_LENGTH;
     }
-    12
+    arch_hsv::bgr_to_hsv_planes(out, pixels, w, h, stride as usize);
+    0
 }
 
 // The difference of two planes of one length, of 2^24 bytes at most, as three words; three zeros for others.
 fn difference(a: &[u8], b: &[u8]) -> [u64; 3]
     ensures { result ≡ difference_of a.now b.now }
 {
-    if a.len() == b.len() {
-        if a.len() <= 16777216 {
-            let found = arch_planes::mean_abs_diff(a, b);
-            let bits = replay::pattern(found.mean);
-            return [found.sum as u64, found.count as u64, bits];
-        }
+    if a.len() == b.len() && a.len() <= 16777216 {
+        let found = arch_planes::mean_abs_diff(a, b);
+        [
+            found.sum as u64,
+            found.count as u64,
+            f64_to_bits_with_nan(found.mean),
+        ]
+    } else {
+        [0, 0, 0]
     }
-    [0, 0, 0]
 }
 
 // Writes the whole sum, the count and the bits of the mean.
@@ -126,11 +139,11 @@ fn difference(a: &[u8], b: &[u8]) -> [u64; 3]
 pub extern "C" fn mw_mean_abs_diff(out: &mut [u64; 3], a: &[u8], b: &[u8])
     ensures { out.new ≡ difference_of a.now b.now }
 {
-    let w = difference(a, b);
-    words::copy(out, &w);
+    *out = difference(a, b);
 }
 
 // Sobel's magnitude and direction planes of a packed luma plane, all three of width * height places.
+#[tactic(auto, using(refusal::proofs::Numbers::positive, crate::proofs::Guarded::refused, crate::proofs::Guarded::done_three, crate::proofs::Guarded::misfit_three))]
 #[unsafe(no_mangle)]
 pub extern "C" fn mw_sobel(
     mag: &mut [i32],
@@ -143,22 +156,17 @@ pub extern "C" fn mw_sobel(
     ensures mag_after { mag.new ≡ after result (sobel_mag luma.now width height) mag.old }
     ensures dir_after { dir.new ≡ after result (sobel_dir luma.now width height) dir.old }
 {
-    let refusal = frame::luma_refusal(luma.len(), width, height, width);
-    if 0 < refusal {
-        return refusal;
+    if let Err(refusal) = frame::check_luma(luma, width, height, width) {
+        return refusal.number();
     }
     let w = width as usize;
     let h = height as usize;
     let n = w * h;
-    if luma.len() == n {
-        if mag.len() == n {
-            if dir.len() == n {
-                arch_sobel::sobel(luma, mag, dir, w, h);
-                return 0;
-            }
-        }
+    if luma.len() != n || mag.len() != n || dir.len() != n {
+        return OTHER_LENGTH;
     }
-    12
+    arch_sobel::sobel(luma, mag, dir, w, h);
+    0
 }
 
 // The median of a luma plane, 255 of an empty one.
@@ -195,6 +203,7 @@ pub extern "C" fn mw_auto_kernel_size(width: u32, height: u32) -> u32
 
 // The edge plane of a packed luma plane with a window of k × k; all three of width * height places. Of mag, which is scratch, an
 // accepted call keeps the length alone.
+#[tactic(auto, using(refusal::proofs::Numbers::positive, crate::proofs::Guarded::refused, crate::proofs::Guarded::done_three, crate::proofs::Guarded::misfit_three))]
 #[unsafe(no_mangle)]
 pub extern "C" fn mw_edge_plane(
     edges: &mut [u8],
@@ -208,22 +217,17 @@ pub extern "C" fn mw_edge_plane(
     ensures edges_after { edges.new ≡ after result (edge_plane luma.now width height k) edges.old }
     ensures mag_len_unchanged { (length mag.new ≡ length mag.old) × (0 < result → mag.new ≡ mag.old) }
 {
-    let refusal = frame::luma_refusal(luma.len(), width, height, width);
-    if 0 < refusal {
-        return refusal;
+    if let Err(refusal) = frame::check_luma(luma, width, height, width) {
+        return refusal.number();
     }
     let w = width as usize;
     let h = height as usize;
     let n = w * h;
-    if luma.len() == n {
-        if mag.len() == n {
-            if edges.len() == n {
-                canny::edge_plane(luma, mag, edges, w, h, k);
-                return 0;
-            }
-        }
+    if luma.len() != n || mag.len() != n || edges.len() != n {
+        return OTHER_LENGTH;
     }
-    12
+    canny::edge_plane(luma, mag, edges, w, h, k);
+    0
 }
 
 // How far ts is past earlier, in microseconds; 0 where it is before it.
@@ -231,10 +235,7 @@ pub extern "C" fn mw_edge_plane(
 pub extern "C" fn mw_duration_since(ts: i64, earlier: i64) -> u64
     ensures { result ≡ micros_of (duration_since (record { micros = ts }) (record { micros = earlier })) }
 {
-    match timestamp::duration_since(Timestamp { micros: ts }, Timestamp { micros: earlier }) {
-        Since::Earlier => 0,
-        Since::Micros(n) => n,
-    }
+    timestamp::duration_since(Timestamp { micros: ts }, Timestamp { micros: earlier }).unwrap_or(0)
 }
 
 // 1 where ts is before earlier, and else 0.
@@ -242,10 +243,10 @@ pub extern "C" fn mw_duration_since(ts: i64, earlier: i64) -> u64
 pub extern "C" fn mw_is_earlier(ts: i64, earlier: i64) -> u32
     ensures { result ≡ earlier_of (duration_since (record { micros = ts }) (record { micros = earlier })) }
 {
-    match timestamp::duration_since(Timestamp { micros: ts }, Timestamp { micros: earlier }) {
-        Since::Earlier => 1,
-        Since::Micros(_) => 0,
-    }
+    timestamp::duration_since(
+        Timestamp { micros: ts },
+        Timestamp { micros: earlier },
+    ).is_none() as u32
 }
 
 // ts less d, stopping at -2^63.
@@ -253,13 +254,13 @@ pub extern "C" fn mw_is_earlier(ts: i64, earlier: i64) -> u32
 pub extern "C" fn mw_saturating_sub_duration(ts: i64, d: u64) -> i64
     ensures { result ≡ (saturating_sub (record { micros = ts }) d).micros }
 {
-    let t = timestamp::saturating_sub_duration(Timestamp { micros: ts }, d);
-    t.micros
+    timestamp::saturating_sub_duration(Timestamp { micros: ts }, d).micros
 }
 
 // Runs the list of content calls that script describes (compare/README.md), on memory of its own, and writes what each call brings to
 // out. Returns how many bytes it wrote; the others stay. What is written no contract says: the calls' own contracts say what they
 // bring.
+// Kept: beside `mw_adaptive_list`, since a C name stands for each detector.
 #[unsafe(no_mangle)]
 pub extern "C" fn mw_content_list(script: &[u8], out: &mut [u8]) -> u64
     ensures { Wrote out.old out.new 0 result }
@@ -268,6 +269,7 @@ pub extern "C" fn mw_content_list(script: &[u8], out: &mut [u8]) -> u64
 }
 
 // The same for a list of adaptive calls.
+// Kept: beside `mw_content_list`, since a C name stands for each detector.
 #[unsafe(no_mangle)]
 pub extern "C" fn mw_adaptive_list(script: &[u8], out: &mut [u8]) -> u64
     ensures { Wrote out.old out.new 0 result }

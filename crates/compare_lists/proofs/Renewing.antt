@@ -1,11 +1,11 @@
 -- A plane whose first bytes a callee wrote.
-use mathlib.Core.Path.{◌≡◌, refl, ◌∙◌}
+use mathlib.Core.Path.{◌≡◌, refl, ap, ◌∙◌}
 use mathlib.Core.Bool.{true, false}
-use mathlib.Core.List.{List, ◌++◌}
-use Prim.Native.Nat.{ℕ, min}
+use mathlib.Core.List.{List, ◌∷◌, ◌++◌}
+use Prim.Native.Nat.{ℕ, zero, suc, min}
 use native.Mathlib.Omega.{arith}
 use lib.Dec.{leb}
-use lib.ListN.{length, take, drop, length-take}
+use lib.ListN.{length, take, drop, length-take, replicate}
 use Rattle.laws.specs.Lists.{tabulate}
 use Rattle.replay.specs.Generator.{next_of, byte_of, after, shades}
 use Rattle.compare_lists.specs.Memory.{renewal, renewed_plane, number_after}
@@ -23,12 +23,17 @@ made-run plane run e n x kind r t is h g =
     (rw (t, h, k) refl, rw (t, g, k, is) refl)
 
 -- one byte throughout
+replicate-tabulate : (n b : ℕ) → replicate n b ≡ tabulate n (λ k. b)
+unfolding tabulate
+replicate-tabulate zero b = refl
+replicate-tabulate (suc n) b = ap (λ (l : List ℕ). b ∷ l) (replicate-tabulate n b)
+
 pub made-level : (plane run : List ℕ) (e n x kind r b : ℕ)
-    → leb kind 3 ≡ false → e ≡ min n (length plane) → r ≡ next_of x → b ≡ byte_of r → run ≡ tabulate (length (take e plane)) (λ i. b) → (r ≡ number_after plane n x kind) × (run ++ drop e plane ≡ renewed_plane plane n x kind)
+    → leb kind 3 ≡ false → e ≡ min n (length plane) → r ≡ next_of x → b ≡ byte_of r → run ≡ replicate (length (take e plane)) b → (r ≡ number_after plane n x kind) × (run ++ drop e plane ≡ renewed_plane plane n x kind)
 unfolding number_after renewal
 made-level plane run e n x kind r b t is h d g =
     let k = lent_length e n plane is in
-    (rw (t, h) refl, rw (t, g, k, d, h, is) refl)
+    (rw (t, h) refl, rw (t, g, k, replicate-tabulate, d, h, is) refl)
 
 -- three planes, one after the other, by numbers that a definition gives
 pub made-planes : (h s v h' s' v' : List ℕ) (n x k y z N X K : ℕ)

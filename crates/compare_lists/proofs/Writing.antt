@@ -5,7 +5,8 @@ use Prim.Native.Nat.{ℕ, ◌+◌, ◌<◌}
 use native.Mathlib.Omega.{arith}
 use lib.ListN.{length, set, length-set}
 use lib.Seq.{get_or-set_other}
-use Rattle.compare_lists.specs.Wrote.{Wrote}
+use Rattle.compare_lists.specs.declared.output.Output.{Output}
+use Rattle.compare_lists.specs.Wrote.{Wrote, Written}
 
 -- nothing written
 pub wrote_none : (l : List ℕ) (s : ℕ) → Wrote l l s s
@@ -32,3 +33,10 @@ wrote-both p q =
       before = λ k h. q.before k (omega (arith, p.onward)) ∙ p.before k h;
       behind = λ k h. q.behind k h ∙ p.behind k (omega (arith, q.onward));
     }
+
+-- the same of memory with the place of the next byte
+pub written_none : (o : Output) → Written o o
+written_none o = record { same_memory = refl; wrote = wrote_none o.bytes.now o.at }
+
+pub written_both : {a b c : Output} → Written a b → Written b c → Written a c
+written_both p q = record { same_memory = q.same_memory ∙ p.same_memory; wrote = wrote-both p.wrote q.wrote }

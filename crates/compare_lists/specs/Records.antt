@@ -1,6 +1,6 @@
 -- What the bytes of a list's records say of settings, sizes and stamps (compare/README.md, "Lists of content calls"): a part of the comparison
 -- with the Rust (RULES 14.3). r[k] is byte k of the record, which for settings is record 0 and for a call its own.
-use Rattle.std.specs.Prelude.{Bool, true, false, cond, List, [], ◌∷◌, ℕ, ◌+◌, ◌*◌, ◌-◌, ◌/◌, ◌%◌, eqb, leb, Float, pos, nat_abs, ◌-ℤ◌, length, get_or}
+use Rattle.std.specs.Prelude.{Bool, true, false, cond, List, [], ◌∷◌, ℕ, ◌+◌, ◌*◌, ◌-◌, ◌/◌, ◌%◌, eqb, leb, Float, pos, nat_abs, ◌-ℤ◌, length, get_or, None, Option, Some}
 use Rattle.std.specs.Float.{nan, inf, binary64}
 use Rattle.std.specs.Float.Ieee.{of_bits}
 use Rattle.std.specs.Int.Signed.{le_z}
@@ -9,8 +9,6 @@ use Rattle.timestamp.specs.Stamps.{least, saturating_sub}
 use Rattle.timestamp.specs.declared.Timestamp.{Timestamp}
 use Rattle.score.specs.Scores.{components, default_weights, luma_only_weights}
 use Rattle.score.specs.declared.Components.{Components}
-use Rattle.score.specs.declared.KernelSize.{KernelSize}
-use Rattle.score.specs.declared.KernelSize.TheVariants.{Auto, Set}
 use Rattle.stream.specs.declared.Stream.{Stream}
 use Rattle.compare_lists.specs.declared.input.Size.{Size}
 
@@ -78,10 +76,10 @@ weights_of s =
     (components (weight_of (byte_of s 0 3)) (weight_of (byte_of s 0 4)) (weight_of (byte_of s 0 5)) (weight_of (byte_of s 0 6))))))
 
 -- k by its kind, r[8] % 8, and the byte r[9]: not set for 0 to 3, 2^32 - 1 for 4, the byte for 5, otherwise 2 × (byte % 32) + 1
-unfoldable pub kernel_by : (kind b : ℕ) → KernelSize
-kernel_by kind b = cond (leb kind 3) Auto (cond (eqb kind 4) (Set 4294967295) (cond (eqb kind 5) (Set b) (Set (2 * (b % 32) + 1))))
+unfoldable pub kernel_by : (kind b : ℕ) → Option ℕ
+kernel_by kind b = cond (leb kind 3) None (cond (eqb kind 4) (Some 4294967295) (cond (eqb kind 5) (Some b) (Some (2 * (b % 32) + 1))))
 
-abbrev pub kernel_of : List ℕ → KernelSize
+abbrev pub kernel_of : List ℕ → Option ℕ
 kernel_of s = kernel_by (byte_of s 0 8 % 8) (byte_of s 0 9)
 
 -- the minimum by r[10] % 16: 0 for 0, 1 for 1, 1,000,000 for 2, 2^64 - 1 for 3, otherwise r[11] × 1000
@@ -145,6 +143,10 @@ is_foreign s i = eqb (byte_of s i 13 % 32) 1
 -- a stream with a height of 4,097, for a bad record
 abbrev pub too_high : Stream → Stream
 too_high s = record { has_previous = s.has_previous; last_score = s.last_score; last_components = s.last_components; width = s.width; height = 4097 }
+
+-- the state that call i is handed: where r[13] % 32 is 1, a bad record by r[14], which `spoiled` gives
+unfoldable pub given_to : {D : Type 0} → (D → ℕ → D) → D → List ℕ → ℕ → D
+given_to spoiled d s i = cond (is_foreign s i) (spoiled d (byte_of s i 14)) d
 
 -- the state after call i, which returned `next`: the list goes on from the state before it where a bad record was handed in
 unfoldable pub kept_after : {D : Type 0} → (d next : D) → List ℕ → ℕ → D

@@ -1,51 +1,47 @@
 // Settings, sizes and stamps from the bytes of a list. Record 0 is the settings, record i the i-th call, 16 bytes each.
+// Kept, point 5: the settings are in the record at place 0, which is made where it is read.
 ghost use Rattle.std.specs.Prelude.{◌≡◌, ◌<◌, get_or};
 ghost use Rattle.std.specs.Float.{nan};
 ghost use Rattle.compare_lists.specs.Records.{byte_of, threshold_of, weight_list, weight_of, weights_of, kernel_by, kernel_of, minimum_of, initial_cut_of, side_of, first_size, next_size, turned_to, next_clock, stamp_of, is_foreign};
 
-use score::{Components, KernelSize};
+use score::Components;
 use timestamp::Timestamp;
 
-fn wide(b: u8) -> u32
-    ensures value { result ≡ b }
-    ensures upper_bound { result < 256 }
-{
-    b as u32
+// Record i of a list: r[0] to r[15], as compare/README.md names its bytes.
+#[derive(Clone, Copy)]
+pub struct Record<'a> {
+    pub script: &'a [u8],
+    pub i: usize,
 }
 
-// Byte k of record i, or 0 where there is none.
-pub fn byte(script: &[u8], i: usize, k: usize) -> u32
-    ensures value { result ≡ byte_of script.now i k }
-    ensures upper_bound { result < 256 }
-{
-    if i < script.len() / 16 {
-        if k < 16 {
-            return wide(script[i * 16 + k]);
+impl<'a> Record<'a> {
+    // Byte k, or 0 where there is none.
+    #[tactic(auto, unfolding(crate::specs::Records::byte_of))]
+    pub fn byte(self, k: usize) -> u32
+        ensures value { result ≡ byte_of self.entry.script.now self.entry.i k }
+        ensures upper_bound { result < 256 }
+    {
+        if self.i < self.script.len() / 16 && k < 16 {
+            self.script[self.i * 16 + k] as u32
+        } else {
+            0
         }
     }
-    0
 }
 
 // A threshold by its kind: one of the odd ones, or the other.
+#[tactic(auto, unfolding(crate::specs::Records::threshold_of))]
 pub fn threshold(kind: u32, other: f64) -> f64
     ensures { result ≡ threshold_of kind other }
 {
-    if kind == 0 {
-        return 0.0 / 0.0;
+    match kind {
+        0 => f64::NAN,
+        1 => f64::INFINITY,
+        2 => f64::NEG_INFINITY,
+        3 => -0.0,
+        4 => 27.0,
+        _ => other,
     }
-    if kind == 1 {
-        return 1.0 / 0.0;
-    }
-    if kind == 2 {
-        return -1.0 / 0.0;
-    }
-    if kind == 3 {
-        return -0.0;
-    }
-    if kind == 4 {
-        return 27.0;
-    }
-    other
 }
 
 const WEIGHTS: [f64; 14] = [
@@ -59,94 +55,78 @@ fn listed(i: usize) -> f64
     WEIGHTS[i]
 }
 
+#[tactic(auto, unfolding(crate::specs::Records::weight_of))]
 fn weight(b: u32) -> f64
     ensures { result ≡ weight_of b }
 {
-    if b == 252 {
-        return 0.0 / 0.0;
+    match b {
+        252 => f64::NAN,
+        253 => f64::INFINITY,
+        254 => f64::NEG_INFINITY,
+        255 => 1048577.0,
+        _ => listed((b % 14) as usize),
     }
-    if b == 253 {
-        return 1.0 / 0.0;
-    }
-    if b == 254 {
-        return -1.0 / 0.0;
-    }
-    if b == 255 {
-        return 1048577.0;
-    }
-    listed((b % 14) as usize)
 }
 
+#[tactic(auto, unfolding(crate::specs::Records::weights_of))]
 pub fn weights(script: &[u8]) -> Components
     ensures { result ≡ weights_of script.now }
 {
-    let kind = byte(script, 0, 2) % 8;
-    if kind == 0 {
-        return Components::default();
+    let r = Record { script, i: 0 };
+    let edges = weight(r.byte(6));
+    match r.byte(2) % 8 {
+        0 => Components::default(),
+        1 => Components::luma_only(),
+        2 => Components::new(1.0, 1.0, 1.0, edges),
+        3 => Components::new(0.0, -0.0, 0.0, edges),
+        _ => Components::new(
+            weight(r.byte(3)),
+            weight(r.byte(4)),
+            weight(r.byte(5)),
+            edges,
+        ),
     }
-    if kind == 1 {
-        return Components::luma_only();
-    }
-    if kind == 2 {
-        return Components::new(1.0, 1.0, 1.0, weight(byte(script, 0, 6)));
-    }
-    if kind == 3 {
-        return Components::new(0.0, -0.0, 0.0, weight(byte(script, 0, 6)));
-    }
-    Components::new(
-        weight(byte(script, 0, 3)),
-        weight(byte(script, 0, 4)),
-        weight(byte(script, 0, 5)),
-        weight(byte(script, 0, 6)),
-    )
 }
 
-fn kernel_size(kind: u32, b: u32) -> KernelSize
+#[tactic(auto, unfolding(crate::specs::Records::kernel_by))]
+fn kernel_size(kind: u32, b: u32) -> Option<u32>
     requires { b < 256 }
     ensures { result ≡ kernel_by kind b }
 {
-    if kind <= 3 {
-        return KernelSize::Auto;
+    match kind {
+        0..=3 => None,
+        4 => Some(u32::MAX),
+        5 => Some(b),
+        _ => Some(2 * (b % 32) + 1),
     }
-    if kind == 4 {
-        return KernelSize::Set(4294967295);
-    }
-    if kind == 5 {
-        return KernelSize::Set(b);
-    }
-    KernelSize::Set(2 * (b % 32) + 1)
 }
 
-pub fn kernel(script: &[u8]) -> KernelSize
+pub fn kernel(script: &[u8]) -> Option<u32>
     ensures { result ≡ kernel_of script.now }
 {
-    kernel_size(byte(script, 0, 8) % 8, byte(script, 0, 9))
+    let r = Record { script, i: 0 };
+    kernel_size(r.byte(8) % 8, r.byte(9))
 }
 
 // The least distance of two cuts.
+#[tactic(auto, unfolding(crate::specs::Records::minimum_of))]
 pub fn minimum(script: &[u8]) -> u64
     ensures { result ≡ minimum_of script.now }
 {
-    let kind = byte(script, 0, 10) % 16;
-    if kind == 0 {
-        return 0;
+    let r = Record { script, i: 0 };
+    match r.byte(10) % 16 {
+        0 => 0,
+        1 => 1,
+        2 => 1000000,
+        3 => u64::MAX,
+        _ => r.byte(11) as u64 * 1000,
     }
-    if kind == 1 {
-        return 1;
-    }
-    if kind == 2 {
-        return 1000000;
-    }
-    if kind == 3 {
-        return 18446744073709551615;
-    }
-    byte(script, 0, 11) as u64 * 1000
 }
 
 pub fn initial_cut(script: &[u8]) -> bool
     ensures { result ≡ initial_cut_of script.now }
 {
-    byte(script, 0, 7) / 2 % 2 == 0
+    Record { script, i: 0 }.byte(7) / 2 % 2 == 0
 }
 
 #[derive(Clone, Copy)]
@@ -156,86 +136,67 @@ pub struct Size {
 }
 
 // Sides are small more often than not.
+#[tactic(auto, unfolding(crate::specs::Records::side_of))]
 fn side(b: u32) -> u32
     ensures { result ≡ side_of b }
 {
-    if b < 192 {
-        return b % 13;
-    }
-    b % 41
+    if b < 192 { b % 13 } else { b % 41 }
 }
 
 pub fn first_size(script: &[u8]) -> Size
     ensures { result ≡ first_size script.now }
 {
+    let r = Record { script, i: 0 };
     Size {
-        width: side(byte(script, 0, 12)),
-        height: side(byte(script, 0, 13)),
+        width: side(r.byte(12)),
+        height: side(r.byte(13)),
     }
 }
 
 // One call in sixteen changes the size.
-pub fn next_size(size: Size, script: &[u8], i: usize) -> Size
-    ensures { result ≡ next_size size script.now i }
+#[tactic(auto, unfolding(crate::specs::Records::next_size))]
+pub fn next_size(size: Size, r: Record<'_>) -> Size
+    ensures { result ≡ next_size size r.entry.script.now r.entry.i }
 {
-    if byte(script, i, 3) % 16 == 0 {
-        return Size {
-            width: side(byte(script, i, 4)),
-            height: side(byte(script, i, 5)),
-        };
+    if r.byte(3) % 16 == 0 {
+        Size {
+            width: side(r.byte(4)),
+            height: side(r.byte(5)),
+        }
+    } else {
+        size
     }
-    size
 }
 
 // The clock is how far the stamp is before 2^63 - 1. It goes on as a rule, and is set back or to an edge at times.
+#[tactic(auto, unfolding(crate::specs::Records::turned_to))]
 fn turned(clock: u64, kind: u32, step: u64) -> u64
     ensures { result ≡ turned_to clock kind step }
 {
-    if kind == 0 {
-        return 18446744073709551615;
+    match kind {
+        0 => u64::MAX,
+        1 => 0,
+        2 => 9223372036854775807,
+        3..=6 => clock.checked_add(step).unwrap_or(clock),
+        _ => clock.checked_sub(step).unwrap_or(clock),
     }
-    if kind == 1 {
-        return 0;
-    }
-    if kind == 2 {
-        return 9223372036854775807;
-    }
-    if kind <= 6 {
-        if clock <= 18446744073709551615 - step {
-            return clock + step;
-        }
-        return clock;
-    }
-    if step <= clock {
-        return clock - step;
-    }
-    clock
 }
 
-pub fn next_clock(clock: u64, script: &[u8], i: usize) -> u64
-    ensures { result ≡ next_clock clock script.now i }
+pub fn next_clock(clock: u64, r: Record<'_>) -> u64
+    ensures { result ≡ next_clock clock r.entry.script.now r.entry.i }
 {
-    turned(
-        clock,
-        byte(script, i, 1) % 32,
-        byte(script, i, 2) as u64 * 1000,
-    )
+    turned(clock, r.byte(1) % 32, r.byte(2) as u64 * 1000)
 }
 
 pub fn stamp(clock: u64) -> Timestamp
     ensures { result ≡ stamp_of clock }
 {
-    timestamp::saturating_sub_duration(
-        Timestamp {
-            micros: 9223372036854775807,
-        },
-        clock,
-    )
+    timestamp::saturating_sub_duration(Timestamp { micros: i64::MAX }, clock)
 }
 
-// Whether call i is handed a bad record.
-pub fn is_foreign(script: &[u8], i: usize) -> bool
-    ensures { result ≡ is_foreign script.now i }
+// Whether a call is handed a bad record.
+pub fn is_foreign(r: Record<'_>) -> bool
+    ensures { result ≡ is_foreign r.entry.script.now r.entry.i }
 {
-    byte(script, i, 13) % 32 == 1
+    r.byte(13) % 32 == 1
 }

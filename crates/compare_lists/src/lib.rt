@@ -3,6 +3,8 @@
 // definitions that state the records; those that write say where they write.
 #![tactic(auto)]
 
+pub mod calls;
 pub mod input;
 pub mod memory;
 pub mod output;
+pub mod replays;

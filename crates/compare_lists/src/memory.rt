@@ -1,13 +1,13 @@
 // What a frame call is lent: planes with their padding, store, scratch and magnitudes, of the lengths needed or a few more, and
 // in faulty calls one less.
-ghost use Rattle.std.specs.Prelude.{◌≡◌, cond, ◌-◌, ◌≤◌, min, length};
+// Kept, point 1: kinds and faults are bytes of the record, whose values compare/README.md gives.
+ghost use Rattle.std.specs.Prelude.{◌≡◌, cond, ◌-◌, ◌≤◌, length};
 ghost use Rattle.compare_lists.specs.Memory.{area_of, faults_of, lent_of, least_of, padding_of, numbers_of, renewed_by, count_of, start_of, kind_of, renewed_plane, number_after};
-ghost use Rattle.laws.specs.Lists.{tabulate};
 
-use crate::input;
-use input::Size;
+use crate::input::{Record, Size};
 
 // The numbers of a frame call.
+// Kept: how much of each lent memory a call is given.
 #[derive(Clone, Copy)]
 pub struct Numbers {
     pub width: u32,
@@ -24,114 +24,113 @@ pub struct Numbers {
     pub magnitudes: usize,
 }
 
-// The lesser of n and `most`, with the bound that indices ask for.
-pub fn at_most(n: usize, most: usize) -> usize
-    ensures value { result ≡ min n most }
-    ensures upper_bound { result ≤ most }
-{
-    n.min(most)
+// The planes of a list's frames, taken from the start on.
+#[derive(Drop)]
+pub struct Planes {
+    pub hue: [u8; 5120],
+    pub saturation: [u8; 5120],
+    pub value: [u8; 5120],
+}
+
+// The memory of a list.
+#[derive(Drop)]
+pub struct Memory {
+    pub planes: Planes,
+    pub store: [u8; 6528],
+    pub scratch: [u8; 11520],
+    pub magnitudes: [i32; 1664],
+}
+
+impl Memory {
+    pub(crate) fn new() -> Self {
+        Memory {
+            planes: Planes {
+                hue: [0; 5120],
+                saturation: [0; 5120],
+                value: [0; 5120],
+            },
+            store: [0; 6528],
+            scratch: [0; 11520],
+            magnitudes: [0; 1664],
+        }
+    }
 }
 
 // w * h; 0 where a side is larger than those of the lists.
+#[tactic(auto, unfolding(crate::specs::Memory::area_of))]
 pub fn area(w: u32, h: u32) -> usize
     ensures value { result ≡ area_of w h }
     ensures upper_bound { result ≤ 5248 }
 {
-    if w <= 128 {
-        if h <= 41 {
-            return w as usize * h as usize;
-        }
+    if w <= 128 && h <= 41 {
+        w as usize * h as usize
+    } else {
+        0
     }
-    0
 }
 
 // The length lent where `need` is asked for: one less, or up to three more.
+#[tactic(auto, unfolding(crate::specs::Memory::lent_of))]
 fn lent(need: usize, more: u32, short: bool) -> usize
     requires { need ≤ 65536 }
     ensures { result ≡ lent_of need more short }
 {
     if short {
-        if 0 < need {
-            return need - 1;
-        }
-        return 0;
+        need.saturating_sub(1)
+    } else {
+        need + (more % 4) as usize
     }
-    need + (more % 4) as usize
-}
-
-fn below(n: u32, short: bool) -> u32
-    ensures { result ≡ cond short (n - 1) n }
-{
-    if short {
-        if 0 < n {
-            return n - 1;
-        }
-    }
-    n
-}
-
-fn too_wide(width: u32, large: bool) -> u32
-    ensures { result ≡ cond large 4097 width }
-{
-    if large {
-        return 4097;
-    }
-    width
 }
 
 // Eight faults as bits; one call in four has any.
-fn faults(script: &[u8], i: usize) -> u32
-    ensures { result ≡ faults_of script.now i }
+#[tactic(auto, unfolding(crate::specs::Memory::faults_of))]
+fn faults(r: Record<'_>) -> u32
+    ensures { result ≡ faults_of r.entry.script.now r.entry.i }
 {
-    if input::byte(script, i, 13) % 4 == 0 {
-        return input::byte(script, i, 14) & input::byte(script, i, 15);
+    if r.byte(13) % 4 == 0 {
+        r.byte(14) & r.byte(15)
+    } else {
+        0
     }
-    0
 }
 
 // The least stride: BGR has three bytes to a pixel.
+#[tactic(auto, unfolding(crate::specs::Memory::least_of))]
 fn least(kind: u32, width: u32) -> u32
     ensures value { result ≡ least_of kind width }
     ensures upper_bound { result ≤ 120 }
 {
-    let w = at_most(width as usize, 40) as u32;
-    if kind <= 10 {
-        return w;
+    match kind {
+        11..=20 => 3 * width.min(40),
+        _ => width.min(40),
     }
-    if kind <= 20 {
-        return 3 * w;
-    }
-    w
 }
 
+#[tactic(auto, unfolding(crate::specs::Memory::padding_of))]
 fn padding(b: u32) -> u32
     ensures value { result ≡ padding_of b }
     ensures upper_bound { result ≤ 3 }
 {
-    if b < 128 {
-        return 0;
-    }
-    b % 4
+    if b < 128 { 0 } else { b % 4 }
 }
 
-// The numbers of call i.
-pub fn frame(size: Size, script: &[u8], i: usize) -> Numbers
-    ensures { result ≡ numbers_of size script.now i }
+// The numbers of a call.
+#[tactic(auto, unfolding(crate::specs::Memory::numbers_by))]
+pub fn frame(size: Size, r: Record<'_>) -> Numbers
+    ensures { result ≡ numbers_of size r.entry.script.now r.entry.i }
 {
-    let w = size.width;
-    let h = size.height;
-    let fault = faults(script, i);
-    let more = input::byte(script, i, 7);
-    let narrow = least(input::byte(script, i, 0) % 32, w);
-    let stride = narrow + padding(input::byte(script, i, 6));
-    let need = area(stride, h);
-    let n = area(w, h);
-    let side = at_most(w.max(h) as usize, 40);
+    let fault = faults(r);
+    let more = r.byte(7);
+    let narrow = least(r.byte(0) % 32, size.width);
+    let stride = narrow + padding(r.byte(6));
+    let need = area(stride, size.height);
+    let n = area(size.width, size.height);
+    let side = size.width.max(size.height).min(40) as usize;
     Numbers {
-        width: too_wide(w, fault % 2 == 1),
-        height: h,
+        width: if fault % 2 == 1 { 4097 } else { size.width },
+        height: size.height,
         stride: strided(stride, narrow, fault / 2 % 2 == 1),
-        need: need,
+        need,
         data: lent(need, more, fault / 4 % 2 == 1),
         saturation: lent(need, more / 4, fault / 8 % 2 == 1),
         value: lent(need, more / 16, fault / 16 % 2 == 1),
@@ -146,70 +145,52 @@ fn strided(stride: u32, narrow: u32, short: bool) -> u32
     ensures { result ≡ cond short (narrow - 1) stride }
 {
     if short {
-        return below(narrow, short);
+        narrow.saturating_sub(1)
+    } else {
+        stride
     }
-    stride
 }
 
 // How many bytes of each plane a call renews: none, a part, or all.
+#[tactic(auto, unfolding(crate::specs::Memory::renewed_by))]
 fn renewed(need: usize, kind: u32, b: u32) -> usize
     ensures { result ≡ renewed_by need kind b }
 {
-    if kind == 0 {
-        return 0;
-    }
-    if kind == 1 {
-        return at_most(need, b as usize);
-    }
-    need
-}
-
-// One byte throughout.
-fn level(plane: &mut [u8], b: u8)
-    ensures { plane.new ≡ tabulate (length plane.old) (λ k. b) }
-{
-    let mut i = 0;
-    while i < plane.len() {
-        plane[i] = b;
-        i += 1;
+    match kind {
+        0 => 0,
+        1 => need.min(b as usize),
+        _ => need,
     }
 }
 
 // A run of the generator for kinds 0 to 3; one byte throughout for the others. Returns the generator's number after it.
+// Kept: n beside the plane, since a call may renew more than a plane holds: the cut stands once here, and not at each of the three planes.
 fn renew(plane: &mut [u8], n: usize, x: u32, kind: u32) -> u32
     ensures value { result ≡ number_after plane.old n x kind }
     ensures plane_after { plane.new ≡ renewed_plane plane.old n x kind }
 {
-    let e = at_most(n, plane.len());
+    let e = n.min(plane.len());
     if kind <= 3 {
-        return replay::fill(&mut plane[..e], x, kind);
+        replay::fill(&mut plane[..e], x, kind)
+    } else {
+        let y = replay::next(x);
+        plane[..e].fill(replay::byte(y));
+        y
     }
-    let y = replay::next(x);
-    level(&mut plane[..e], replay::byte(y));
-    y
 }
 
-// Renews the planes' first bytes; the others are as the last frame had them.
-pub fn refill(
-    script: &[u8],
-    i: usize,
-    need: usize,
-    hue: &mut [u8],
-    saturation: &mut [u8],
-    value: &mut [u8],
-)
-    ensures hue_after { hue.new ≡ renewed_plane hue.old (count_of need script.now i) (start_of script.now i) (kind_of script.now i) }
-    ensures saturation_after { saturation.new ≡ renewed_plane saturation.old (count_of need script.now i) (number_after hue.old (count_of need script.now i) (start_of script.now i) (kind_of script.now i)) (kind_of script.now i) }
-    ensures value_after { value.new ≡ renewed_plane value.old (count_of need script.now i) (number_after saturation.old (count_of need script.now i) (number_after hue.old (count_of need script.now i) (start_of script.now i) (kind_of script.now i)) (kind_of script.now i)) (kind_of script.now i) }
-{
-    let kind = input::byte(script, i, 8) % 8;
-    let n = renewed(
-        need,
-        input::byte(script, i, 9) % 4,
-        input::byte(script, i, 10),
-    );
-    let x = input::byte(script, i, 11) * 256 + input::byte(script, i, 12);
-    let y = renew(hue, n, x, kind);
-    let z = renew(saturation, n, y, kind);
-    renew(value, n, z, kind);
+impl Planes {
+    // Renews the first bytes; the others are as the last frame had them.
+    pub fn refill(&mut self, r: Record<'_>, need: usize)
+        ensures hue_after { self.new.hue ≡ renewed_plane self.old.hue (count_of need r.entry.script.now r.entry.i) (start_of r.entry.script.now r.entry.i) (kind_of r.entry.script.now r.entry.i) }
+        ensures saturation_after { self.new.saturation ≡ renewed_plane self.old.saturation (count_of need r.entry.script.now r.entry.i) (number_after self.old.hue (count_of need r.entry.script.now r.entry.i) (start_of r.entry.script.now r.entry.i) (kind_of r.entry.script.now r.entry.i)) (kind_of r.entry.script.now r.entry.i) }
+        ensures value_after { self.new.value ≡ renewed_plane self.old.value (count_of need r.entry.script.now r.entry.i) (number_after self.old.saturation (count_of need r.entry.script.now r.entry.i) (number_after self.old.hue (count_of need r.entry.script.now r.entry.i) (start_of r.entry.script.now r.entry.i) (kind_of r.entry.script.now r.entry.i)) (kind_of r.entry.script.now r.entry.i)) (kind_of r.entry.script.now r.entry.i) }
+    {
+        let kind = r.byte(8) % 8;
+        let n = renewed(need, r.byte(9) % 4, r.byte(10));
+        let x = r.byte(11) * 256 + r.byte(12);
+        let y = renew(&mut self.hue, n, x, kind);
+        let z = renew(&mut self.saturation, n, y, kind);
+        renew(&mut self.value, n, z, kind);
+    }
 }

@@ -1,166 +1,153 @@
-// What a call brings, written down as bytes from a place on. What does not fit in out is left out.
+// What a call brings, written down as bytes from a place on. What does not fit is left out.
 ghost use Rattle.std.specs.Prelude.{◌≡◌};
 ghost use Rattle.compare_lists.specs.Records.{raised_of};
-ghost use Rattle.compare_lists.specs.Wrote.{Wrote};
+ghost use Rattle.compare_lists.specs.Wrote.{Written};
 
-use crate::memory;
-use score::{Components, MaybeComponents, MaybeScore};
-use stream::Sums;
-use timestamp::{MaybeTimestamp, Since, Timestamp};
+use crate::{calls, memory};
+use detector::{Detect, Step};
+use refusal::Refused;
+use score::Components;
+use std::num::f64_to_bits_with_nan;
+use stream::{Stream, Sums};
+use timestamp::Timestamp;
 
-// One byte at `at`; returns the next place.
-fn put(out: &mut [u8], at: usize, b: u8) -> usize
-    ensures { Wrote out.old out.new at result }
-{
-    if at < out.len() {
-        out[at] = b;
-        return at + 1;
+// The memory that is written to, and the place of the next byte.
+// Kept: no heap: lent memory, and how much of it is written. `decimal::Writer` asks for room, and this one leaves out what does not fit.
+#[derive(Drop)]
+pub struct Output<'a> {
+    pub bytes: &'a mut [u8],
+    pub at: usize,
+}
+
+impl<'a> Output<'a> {
+    fn push(&mut self, byte: u8)
+        ensures { Written self.old self.new }
+    {
+        if self.at < self.bytes.len() {
+            self.bytes[self.at] = byte;
+            self.at += 1;
+        }
     }
-    at
+
+    fn extend(&mut self, bytes: &[u8])
+        ensures { Written self.old self.new }
+    {
+        for b in bytes {
+            self.push(*b);
+        }
+    }
 }
 
-// A number of 32 bits, least byte first.
-pub fn put_word(out: &mut [u8], at: usize, n: u32) -> usize
-    ensures { Wrote out.old out.new at result }
-{
-    let a = put(out, at, (n % 256) as u8);
-    let b = put(out, a, (n / 256 % 256) as u8);
-    let c = put(out, b, (n / 65536 % 256) as u8);
-    put(out, c, (n / 16777216 % 256) as u8)
+// A value that is written down.
+pub trait Put: Copy {
+    fn put(self, out: &mut Output<'_>)
+        ensures { Written out.old out.new };
 }
 
-// A number of 64 bits, least byte first.
-pub fn put_long(out: &mut [u8], at: usize, n: u64) -> usize
-    ensures { Wrote out.old out.new at result }
-{
-    let a = put_word(out, at, (n % 4294967296) as u32);
-    put_word(out, a, (n / 4294967296 % 4294967296) as u32)
+impl Put for u8 {
+    fn put(self, out: &mut Output<'_>) {
+        out.push(self);
+    }
 }
 
-pub fn put_double(out: &mut [u8], at: usize, x: f64) -> usize
-    ensures { Wrote out.old out.new at result }
-{
-    put_long(out, at, replay::pattern(x))
+// Least byte first.
+impl Put for u32 {
+    // Kept: beside that of u64, since `to_le_bytes` is a method of each type and of no trait.
+    fn put(self, out: &mut Output<'_>) {
+        out.extend(&self.to_le_bytes());
+    }
 }
 
-fn put_components(out: &mut [u8], at: usize, c: Components) -> usize
-    ensures { Wrote out.old out.new at result }
-{
-    let hue = put_double(out, at, c.delta_hue);
-    let saturation = put_double(out, hue, c.delta_sat);
-    let luma = put_double(out, saturation, c.delta_lum);
-    put_double(out, luma, c.delta_edges)
+// Least byte first.
+impl Put for u64 {
+    // Kept: beside that of u32, for the same reason.
+    fn put(self, out: &mut Output<'_>) {
+        out.extend(&self.to_le_bytes());
+    }
+}
+
+// Its bits.
+impl Put for f64 {
+    fn put(self, out: &mut Output<'_>) {
+        f64_to_bits_with_nan(self).put(out);
+    }
+}
+
+impl Put for Components {
+    fn put(self, out: &mut Output<'_>) {
+        self.delta_hue.put(out);
+        self.delta_sat.put(out);
+        self.delta_lum.put(out);
+        self.delta_edges.put(out);
+    }
 }
 
 // The four sums and the count, 32 bits each.
-fn put_sums(out: &mut [u8], at: usize, s: Sums) -> usize
-    ensures { Wrote out.old out.new at result }
-{
-    let hue = put_word(out, at, s.hue);
-    let saturation = put_word(out, hue, s.saturation);
-    let luma = put_word(out, saturation, s.luma);
-    let edges = put_word(out, luma, s.edges);
-    put_word(out, edges, s.count)
+impl Put for Sums {
+    fn put(self, out: &mut Output<'_>) {
+        self.hue.put(out);
+        self.saturation.put(out);
+        self.luma.put(out);
+        self.edges.put(out);
+        self.count.put(out);
+    }
 }
 
 // How far a stamp is past -2^63.
+// Kept: beside that of `replay_list`; each is stated by a definition of its own crate.
 fn raised(t: Timestamp) -> u64
     ensures { result ≡ raised_of t }
 {
-    match timestamp::duration_since(
-        t,
-        Timestamp {
-            micros: -9223372036854775808,
-        },
-    ) {
-        Since::Earlier => 0,
-        Since::Micros(n) => n,
+    timestamp::duration_since(t, Timestamp { micros: i64::MIN }).unwrap_or(0)
+}
+
+impl Put for Timestamp {
+    fn put(self, out: &mut Output<'_>) {
+        raised(self).put(out);
     }
 }
 
-// 0, or 1 and the stamp.
-pub fn put_cut(out: &mut [u8], at: usize, cut: MaybeTimestamp) -> usize
-    ensures { Wrote out.old out.new at result }
-{
-    match cut {
-        MaybeTimestamp::None => put(out, at, 0),
-        MaybeTimestamp::At(t) => {
-            let next = put(out, at, 1);
-            put_long(out, next, raised(t))
+// 0, or 1 and the value.
+impl<T: Put> Put for Option<T> {
+    fn put(self, out: &mut Output<'_>) {
+        match self {
+            None => 0u8.put(out),
+            Some(value) => {
+                1u8.put(out);
+                value.put(out);
+            }
         }
     }
 }
 
-// 0, or 1 and the score.
-pub fn put_score(out: &mut [u8], at: usize, score: MaybeScore) -> usize
-    ensures { Wrote out.old out.new at result }
+// The four planes of a frame of this stream's size, and 16 bytes behind them.
+pub fn put_store(out: &mut Output<'_>, stream: Stream, store: &[u8])
+    ensures { Written out.old out.new }
 {
-    match score {
-        MaybeScore::None => put(out, at, 0),
-        MaybeScore::Some(x) => {
-            let next = put(out, at, 1);
-            put_double(out, next, x)
-        }
-    }
+    let n = 4 * memory::area(stream.width, stream.height) + 16;
+    out.extend(&store[..n.min(store.len())]);
 }
 
-// 0, or 1 and the components.
-fn put_maybe_components(out: &mut [u8], at: usize, last: MaybeComponents) -> usize
-    ensures { Wrote out.old out.new at result }
+// What a call answers besides the state: a refused one brings its number alone.
+// Kept: the number in front of what a step shows, as compare/README.md lays it out.
+pub fn put_answer<D: Detect>(out: &mut Output<'_>, answer: Result<Step<D>, Refused<D>>)
+    ensures { Written out.old out.new }
 {
-    match last {
-        MaybeComponents::None => put(out, at, 0),
-        MaybeComponents::Some(c) => {
-            let next = put(out, at, 1);
-            put_components(out, next, c)
-        }
-    }
-}
-
-fn put_bytes(out: &mut [u8], start: usize, src: &[u8]) -> usize
-    ensures { Wrote out.old out.new start result }
-{
-    let mut at = start;
-    let mut i = 0;
-    while i < src.len() {
-        at = put(out, at, src[i]);
-        i += 1;
-    }
-    at
-}
-
-// The four planes of a frame of this size, and 16 bytes behind them.
-pub fn put_store(out: &mut [u8], at: usize, width: u32, height: u32, store: &[u8]) -> usize
-    ensures { Wrote out.old out.new at result }
-{
-    let n = 4 * memory::area(width, height) + 16;
-    let e = memory::at_most(n, store.len());
-    put_bytes(out, at, &store[..e])
-}
-
-// What a call answers besides the state.
-pub fn put_answer(
-    out: &mut [u8],
-    start: usize,
-    number: u32,
-    cut: MaybeTimestamp,
-    score: MaybeScore,
-    components: Components,
-    sums: Sums,
-) -> usize
-    ensures { Wrote out.old out.new start result }
-{
-    let a = put_word(out, start, number);
-    let b = put_cut(out, a, cut);
-    let c = put_score(out, b, score);
-    let e = put_components(out, c, components);
-    put_sums(out, e, sums)
+    let (number, step) = match answer {
+        Ok(step) => (0u32, step),
+        Err(refused) => (refused.refusal.number(), calls::quiet(refused.state)),
+    };
+    number.put(out);
+    step.cut.put(out);
+    step.score.put(out);
+    step.components.put(out);
+    step.sums.put(out);
 }
 
 // What the readers of both detectors show.
-pub fn put_last(out: &mut [u8], at: usize, score: MaybeScore, components: MaybeComponents) -> usize
-    ensures { Wrote out.old out.new at result }
+pub fn put_last<D: Detect>(out: &mut Output<'_>, d: D)
+    ensures { Written out.old out.new }
 {
-    let next = put_score(out, at, score);
-    put_maybe_components(out, next, components)
+    detector::last_score(d).put(out);
+    detector::last_components(d).put(out);
 }

@@ -1,7 +1,7 @@
 // The whole session, callable from other languages: compare/ holds it against the Rust. A slice passes as a pointer and then a length.
 #![tactic(auto)]
 
-ghost use Rattle.std.specs.Prelude.{ltb};
+ghost use Rattle.std.specs.Prelude.{◌==◌, if◌then◌else◌};
 ghost use Rattle.session.specs.Promises.{IsOutput};
 
 // The output of the input, which is fed in chunks of `size` bytes (0: the whole). Returns how many bytes of `out` it wrote; the others
@@ -9,11 +9,11 @@ ghost use Rattle.session.specs.Promises.{IsOutput};
 // always room enough.
 #[unsafe(no_mangle)]
 pub extern "C" fn mw_session(input: &[u8], size: usize, out: &mut [u8]) -> u64
-    ensures { IsOutput input.now out.old out.new (ltb 0 result) result }
+    ensures { IsOutput input.now out.old out.new (if result == 0 then None else Some result) }
 {
-    let w = session::run(input, size, out);
-    if w.ok {
-        return w.written as u64;
+    // Kept: by cases, as the promise is; by `map_or` it would be shown of a closure.
+    match session::run(input, size, out) {
+        Some(written) => written as u64,
+        None => 0,
     }
-    0
 }

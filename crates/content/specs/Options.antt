@@ -1,10 +1,8 @@
 -- The content detector's settings and their defaults (RULES 8.1), and their refusals (RULES 10.1, 10.5).
-use Rattle.std.specs.Prelude.{Bool, true, ℕ, Float}
+use Rattle.std.specs.Prelude.{Bool, true, ℕ, Float, None, Option}
 use Rattle.std.specs.Float.Ieee.{is_nan}
 use Rattle.laws.specs.Floats.{float}
 use Rattle.score.specs.declared.Components.{Components}
-use Rattle.score.specs.declared.KernelSize.{KernelSize}
-use Rattle.score.specs.declared.KernelSize.TheVariants.{Auto}
 use Rattle.score.specs.Scores.{default_weights}
 use Rattle.score.specs.Settings.{settings_refusal}
 use Rattle.filter.specs.declared.FilterMode.{FilterMode}
@@ -14,13 +12,13 @@ use Rattle.frame_call.specs.declared.PictureOptions.{PictureOptions}
 use Rattle.content.specs.declared.Options.{Options}
 
 -- settings of these six values
-abbrev pub options : Float → ℕ → Components → FilterMode → KernelSize → Bool → Options
+abbrev pub options : Float → ℕ → Components → FilterMode → Option ℕ → Bool → Options
 options threshold minimum weights mode kernel initial =
     record { threshold = threshold; min_duration = minimum; weights = weights; filter_mode = mode; kernel_size = kernel; initial_cut = initial }
 
 -- the defaults: threshold 27, a minimum of one second, the default weights, Merge, k not set, `initial_cut` on (RULES 8.1)
 abbrev pub defaults : Options
-defaults = options (float 27) 1000000 default_weights Merge Auto true
+defaults = options (float 27) 1000000 default_weights Merge None true
 
 -- what the filter reads of the settings (RULES 8.1)
 abbrev pub filter_options : Options → FilterOptions

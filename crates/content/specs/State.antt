@@ -1,19 +1,22 @@
 -- The state of a content detector, when it is bad (RULES 10.6), and what a settings call (RULES 8.2), a refused call (RULES 10.3) and `clear`
 -- (RULES 8.7) return.
-use Rattle.std.specs.Prelude.{Bool, true, false, cond, not, ◌&&◌, ◌||◌, ℕ, eqb}
-use Rattle.timestamp.specs.declared.MaybeTimestamp.{MaybeTimestamp}
-use Rattle.timestamp.specs.declared.MaybeTimestamp.TheVariants.{None, At}
+use Rattle.std.specs.Prelude.{Bool, true, false, cond, not, ◌&&◌, ◌||◌, ℕ, eqb, None, Option, Some}
 use Rattle.frame.specs.Checks.{too_large}
-use Rattle.score.specs.declared.MaybeScore.TheVariants.{None as no_score}
-use Rattle.score.specs.declared.MaybeComponents.TheVariants.{None as no_components}
-use Rattle.stream.specs.Stream.{no_sums, fresh_stream, components_shown}
+use Rattle.stream.specs.Stream.{fresh_stream}
 use Rattle.filter.specs.declared.Filter.{Filter}
 use Rattle.filter.specs.Flash.{fresh as fresh_filter}
 use Rattle.content.specs.declared.Options.{Options}
 use Rattle.content.specs.declared.Detector.{Detector}
-use Rattle.content.specs.declared.Settled.{Settled}
-use Rattle.content.specs.declared.Answer.{Answer}
+use Rattle.detector.specs.Answers.{Answer as AnswerOf, Settled as SettledOf, without_score}
 use Rattle.content.specs.Options.{defaults, options_refusal}
+use Rattle.timestamp.specs.declared.Timestamp.{Timestamp}
+
+-- what a frame call or `clear` answers, and what a settings call returns, of this detector
+abbrev pub Answer : Type 0
+Answer = AnswerOf Detector
+
+abbrev pub Settled : Type 0
+Settled = SettledOf Detector
 
 -- a state before the first frame of a stretch, with these settings and this size
 abbrev pub state_of : Options → ℕ → ℕ → Detector
@@ -24,9 +27,9 @@ abbrev pub fresh : Options → Detector
 fresh o = state_of o 0 0
 
 -- there is no stamp here
-abbrev pub missing : MaybeTimestamp → Bool
+abbrev pub missing : Option Timestamp → Bool
 missing None = true
-missing (At t) = false
+missing (Some t) = false
 
 -- a merge is going on without a start or a last stamp (RULES 10.6, 10.7)
 abbrev pub bad_filter : Filter → Bool
@@ -43,7 +46,7 @@ settled o = record { number = options_refusal o; detector = fresh (cond (eqb (op
 -- an answer with this state, no cut, no score and no sums: that of a refused call, with the old state (RULES 10.3), and that of `clear`, with the
 -- number 0
 abbrev pub refused_answer : Detector → ℕ → Answer
-refused_answer d n = record { number = n; detector = d; cut = None; score = no_score; components = components_shown no_components; sums = no_sums }
+refused_answer d n = without_score d n
 
 -- what `clear` returns: refused by 15 alone, it keeps settings and size, and all else is as at the start (RULES 8.7)
 unfoldable pub cleared_answer : Detector → Answer

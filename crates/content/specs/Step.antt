@@ -1,30 +1,26 @@
 -- What the content detector answers to an accepted frame, by the frame's result, and to any call (RULES 8.4 to 8.6).
+use Rattle.std.specs.Prelude.{Float, None, Option, Some}
 use Rattle.std.specs.Float.Ieee.{le}
 use Rattle.timestamp.specs.declared.Timestamp.{Timestamp}
-use Rattle.timestamp.specs.declared.MaybeTimestamp.TheVariants.{None}
-use Rattle.score.specs.declared.MaybeScore.{MaybeScore}
-use Rattle.score.specs.declared.MaybeScore.TheVariants.{None as no_score, Some as some_score}
 use Rattle.stream.specs.Stream.{components_shown}
 use Rattle.filter.specs.declared.Filter.{Filter}
 use Rattle.filter.specs.declared.FilterStep.{FilterStep}
 use Rattle.filter.specs.Flash.{fresh as fresh_filter, flash_filter}
-use Rattle.frame_call.specs.declared.Picture.{Picture}
-use Rattle.frame_call.specs.Call.{Call, Outcome, outcome_of}
+use Rattle.frame_call.specs.Call.{PictureAnswer, Call, Outcome, outcome_of}
 use Rattle.content.specs.declared.Options.{Options}
 use Rattle.content.specs.declared.Detector.{Detector}
-use Rattle.content.specs.declared.Answer.{Answer}
 use Rattle.content.specs.Options.{filter_options, picture_options}
-use Rattle.content.specs.State.{bad_state, refused_answer, cleared_answer}
+use Rattle.content.specs.State.{Answer, bad_state, refused_answer, cleared_answer}
 
 -- A frame with a score goes to the filter, and it is above when its score is at or over the threshold (RULES 6.7). The first frame of a
 -- stretch, which has none, gives no cut and leaves a fresh filter, not yet seeded (RULES 6.5, 8.5).
-abbrev pub filter_step : Options → Filter → Timestamp → MaybeScore → FilterStep
-filter_step o φ ts no_score = record { filter = fresh_filter; cut = None }
-filter_step o φ ts (some_score x) = flash_filter (filter_options o) φ ts (le o.threshold x)
+abbrev pub filter_step : Options → Filter → Timestamp → Option Float → FilterStep
+filter_step o φ ts None = record { filter = fresh_filter; cut = None }
+filter_step o φ ts (Some x) = flash_filter (filter_options o) φ ts (le o.threshold x)
 
 -- the answer to an accepted frame, by its stamp, its sums and the stream after it: 0, the new state, the cut or none, the score or none, the
 -- components and the sums (RULES 8.4). Settings are the record's own (RULES 8.6).
-unfoldable pub stepped : Detector → Timestamp → Picture → Answer
+unfoldable pub stepped : Detector → Timestamp → PictureAnswer → Answer
 stepped d ts p =
     let step : FilterStep = filter_step d.options d.filter ts p.stream.last_score in
     let after : Detector = record { options = d.options; stream = p.stream; filter = step.filter } in

@@ -1,70 +1,54 @@
-// The content detector without its pixels (RULES 8): options, the state record, settings, the step of an accepted frame, `clear` and
-// the readers. Values go in and come out. The frame calls are in the crate `content_frames`.
+// The content detector without its pixels (RULES 8): options, the state record, settings, the step of an accepted frame and `clear`. Values
+// go in and come out. The frame calls, and the readers of score and components, are those of any detector (`detector`).
 #![tactic(auto)]
 
-ghost use Rattle.std.specs.Prelude.{◌≡◌};
+ghost use Rattle.std.specs.Prelude.{◌≡◌, refl};
+ghost use Rattle.refusal.specs.Refusal.{number_in};
+ghost use Rattle.detector.specs.Answers.{settled_in};
 ghost use Rattle.content.specs.Options.{options, defaults, filter_options, picture_options, options_refusal};
-ghost use Rattle.content.specs.State.{fresh, missing, bad_filter, bad_state, settled, refused_answer, cleared_answer};
+ghost use Rattle.content.specs.State.{fresh, bad_filter, bad_state, settled, cleared_answer};
 ghost use Rattle.content.specs.Step.{filter_step, stepped};
 
+use detector::{Detect, Step};
 use filter::{Filter, FilterMode, FilterOptions, FilterStep};
 use frame_call::{Picture, PictureOptions};
-use score::{Components, KernelSize, MaybeComponents, MaybeScore};
-use stream::{Stream, Sums};
-use timestamp::{MaybeTimestamp, Timestamp};
+use refusal::{Refusal, Refused};
+use score::Components;
+use stream::Stream;
+use timestamp::Timestamp;
 
-#[derive(Clone, Copy)]
+#[derive(Clone, Copy, Debug, PartialEq)]
 pub struct Options {
     pub threshold: f64,
     // The least distance from one cut to the next, in microseconds.
     pub min_duration: u64,
     pub weights: Components,
     pub filter_mode: FilterMode,
-    pub kernel_size: KernelSize,
+    pub kernel_size: Option<u32>,
     // Whether the seed lies the minimum before the first scored frame, so that this frame may be a cut, or at it.
     pub initial_cut: bool,
 }
 
 // What one call hands to the next.
-#[derive(Clone, Copy)]
+#[derive(Clone, Copy, Debug, PartialEq)]
 pub struct Detector {
     pub options: Options,
     pub stream: Stream,
     pub filter: Filter,
 }
 
-// What a settings call returns: a refusal's number or 0, and a fresh state.
-#[derive(Clone, Copy)]
-pub struct Settled {
-    pub number: u32,
-    pub detector: Detector,
-}
-
-// What a frame call or `clear` returns besides the memory it writes: a refusal's number or 0, the state, the cut or none, the score or
-// none, the four components, which are 0.0 where there is no score, and the whole sums and the count that they come from, which are 0
-// there.
-#[derive(Clone, Copy)]
-pub struct Answer {
-    pub number: u32,
-    pub detector: Detector,
-    pub cut: MaybeTimestamp,
-    pub score: MaybeScore,
-    pub components: Components,
-    pub sums: Sums,
-}
-
+// Kept, point 2: the Rust's names; each detector's options are a type of their own, with a reader and a setter for each field.
 impl Options {
     // The Rust's defaults, without `simd`.
     pub fn new() -> Self
         ensures { result ≡ defaults }
     {
-        let weights = Components::default();
         Options {
             threshold: 27.0,
-            min_duration: 1000000,
-            weights: weights,
+            min_duration: 1_000_000,
+            weights: Components::default(),
             filter_mode: FilterMode::Merge,
-            kernel_size: KernelSize::Auto,
+            kernel_size: None,
             initial_cut: true,
         }
     }
@@ -75,20 +59,11 @@ impl Options {
         self.threshold
     }
 
-    pub fn with_threshold(self, val: f64) -> Self
+    pub fn with_threshold(mut self, val: f64) -> Self
         ensures { result ≡ options val self.min_duration self.weights self.filter_mode self.kernel_size self.initial_cut }
     {
-        let weights = self.weights;
-        let filter_mode = self.filter_mode;
-        let kernel_size = self.kernel_size;
-        Options {
-            threshold: val,
-            min_duration: self.min_duration,
-            weights: weights,
-            filter_mode: filter_mode,
-            kernel_size: kernel_size,
-            initial_cut: self.initial_cut,
-        }
+        self.threshold = val;
+        self
     }
 
     pub fn min_duration(self) -> u64
@@ -97,20 +72,11 @@ impl Options {
         self.min_duration
     }
 
-    pub fn with_min_duration(self, val: u64) -> Self
+    pub fn with_min_duration(mut self, val: u64) -> Self
         ensures { result ≡ options self.threshold val self.weights self.filter_mode self.kernel_size self.initial_cut }
     {
-        let weights = self.weights;
-        let filter_mode = self.filter_mode;
-        let kernel_size = self.kernel_size;
-        Options {
-            threshold: self.threshold,
-            min_duration: val,
-            weights: weights,
-            filter_mode: filter_mode,
-            kernel_size: kernel_size,
-            initial_cut: self.initial_cut,
-        }
+        self.min_duration = val;
+        self
     }
 
     pub fn weights(self) -> Components
@@ -119,19 +85,11 @@ impl Options {
         self.weights
     }
 
-    pub fn with_weights(self, val: Components) -> Self
+    pub fn with_weights(mut self, val: Components) -> Self
         ensures { result ≡ options self.threshold self.min_duration val self.filter_mode self.kernel_size self.initial_cut }
     {
-        let filter_mode = self.filter_mode;
-        let kernel_size = self.kernel_size;
-        Options {
-            threshold: self.threshold,
-            min_duration: self.min_duration,
-            weights: val,
-            filter_mode: filter_mode,
-            kernel_size: kernel_size,
-            initial_cut: self.initial_cut,
-        }
+        self.weights = val;
+        self
     }
 
     pub fn filter_mode(self) -> FilterMode
@@ -140,40 +98,24 @@ impl Options {
         self.filter_mode
     }
 
-    pub fn with_filter_mode(self, val: FilterMode) -> Self
+    pub fn with_filter_mode(mut self, val: FilterMode) -> Self
         ensures { result ≡ options self.threshold self.min_duration self.weights val self.kernel_size self.initial_cut }
     {
-        let weights = self.weights;
-        let kernel_size = self.kernel_size;
-        Options {
-            threshold: self.threshold,
-            min_duration: self.min_duration,
-            weights: weights,
-            filter_mode: val,
-            kernel_size: kernel_size,
-            initial_cut: self.initial_cut,
-        }
+        self.filter_mode = val;
+        self
     }
 
-    pub fn kernel_size(self) -> KernelSize
+    pub fn kernel_size(self) -> Option<u32>
         ensures { result ≡ self.kernel_size }
     {
         self.kernel_size
     }
 
-    pub fn with_kernel_size(self, val: KernelSize) -> Self
+    pub fn with_kernel_size(mut self, val: Option<u32>) -> Self
         ensures { result ≡ options self.threshold self.min_duration self.weights self.filter_mode val self.initial_cut }
     {
-        let weights = self.weights;
-        let filter_mode = self.filter_mode;
-        Options {
-            threshold: self.threshold,
-            min_duration: self.min_duration,
-            weights: weights,
-            filter_mode: filter_mode,
-            kernel_size: val,
-            initial_cut: self.initial_cut,
-        }
+        self.kernel_size = val;
+        self
     }
 
     pub fn initial_cut(self) -> bool
@@ -182,94 +124,60 @@ impl Options {
         self.initial_cut
     }
 
-    pub fn with_initial_cut(self, val: bool) -> Self
+    pub fn with_initial_cut(mut self, val: bool) -> Self
         ensures { result ≡ options self.threshold self.min_duration self.weights self.filter_mode self.kernel_size val }
     {
-        let weights = self.weights;
-        let filter_mode = self.filter_mode;
-        let kernel_size = self.kernel_size;
-        Options {
-            threshold: self.threshold,
-            min_duration: self.min_duration,
-            weights: weights,
-            filter_mode: filter_mode,
-            kernel_size: kernel_size,
-            initial_cut: val,
-        }
+        self.initial_cut = val;
+        self
     }
 }
 
 // What the filter reads of the options.
-fn filter_options(o: Options) -> FilterOptions
-    ensures { result ≡ filter_options o }
-{
-    let mode = o.filter_mode;
-    FilterOptions {
-        filter_mode: mode,
-        min_duration: o.min_duration,
-        initial_cut: o.initial_cut,
-    }
-}
+// Kept, point 4: two types that share names, each of which is named once.
+impl From<Options> for FilterOptions {
+    ghost from_gives = { λ o r. r ≡ filter_options o };
 
-// What a frame's picture is scored by.
-pub fn picture_options(o: Options) -> PictureOptions
-    ensures { result ≡ picture_options o }
-{
-    let weights = o.weights;
-    let kernel_size = o.kernel_size;
-    PictureOptions {
-        weights: weights,
-        kernel_size: kernel_size,
+    fn from(o: Options) -> Self {
+        FilterOptions {
+            filter_mode: o.filter_mode,
+            min_duration: o.min_duration,
+            initial_cut: o.initial_cut,
+        }
     }
 }
 
 // Refusals 6 to 9 of settings.
-fn options_refusal(o: Options) -> u32
-    ensures { result ≡ options_refusal o }
+fn check_options(o: Options) -> Result<(), Refusal>
+    ensures { number_in result ≡ options_refusal o }
 {
-    let weights = o.weights;
-    let kernel = o.kernel_size;
-    score::settings_refusal(weights, kernel, score::is_nan(o.threshold))
+    score::check_settings(o.weights, o.kernel_size, score::is_nan(o.threshold))
 }
 
 // A fresh state with these options.
-fn fresh(o: Options) -> Detector
-    ensures { result ≡ fresh o }
+// Kept: made of the fields of its own detector.
+fn fresh(options: Options) -> Detector
+    ensures { result ≡ fresh options }
 {
-    let s = stream::fresh_stream(0, 0);
-    let f = filter::new();
     Detector {
-        options: o,
-        stream: s,
-        filter: f,
+        options,
+        stream: stream::fresh_stream(0, 0),
+        filter: filter::new(),
     }
 }
 
-// A settings call: refused, a fresh record of the defaults; accepted, a fresh state.
-pub fn try_new(o: Options) -> Settled
-    ensures { result ≡ settled o }
+// A settings call: accepted, a fresh state; refused, why and a fresh state of the defaults.
+// Kept: beside the other detector's. One function for both is no plainer: it would want type, check and fresh state of the options in the trait.
+// By cases, as a settings call answers: a state, or why and the state of the defaults.
+#[tactic(auto, using(refusal::proofs::Numbers::positive), unfolding(crate::specs::State::settled))]
+pub fn try_new(options: Options) -> Result<Detector, Refused<Detector>>
+    ensures { settled_in result ≡ settled options }
 {
-    let number = options_refusal(o);
-    if number == 0 {
-        let d = fresh(o);
-        return Settled {
-            number: 0,
-            detector: d,
-        };
-    }
-    let d = fresh(Options::new());
-    Settled {
-        number: number,
-        detector: d,
-    }
-}
-
-fn is_missing(t: MaybeTimestamp) -> bool
-    ensures { result ≡ missing t }
-{
-    match t {
-        MaybeTimestamp::None => true,
-        MaybeTimestamp::At(_) => false,
+    match check_options(options) {
+        Ok(()) => Ok(fresh(options)),
+        Err(refusal) => Err(Refused {
+            refusal,
+            state: fresh(Options::new()),
+        }),
     }
 }
 
@@ -277,124 +185,86 @@ fn is_missing(t: MaybeTimestamp) -> bool
 fn bad_filter(f: Filter) -> bool
     ensures { result ≡ bad_filter f }
 {
-    let start = f.merge_start;
-    let last = f.last_above;
-    f.merge_triggered & (is_missing(start) | is_missing(last))
-}
-
-// Refusal 15.
-pub fn is_bad(d: Detector) -> bool
-    ensures { result ≡ bad_state d }
-{
-    let o = d.options;
-    let s = d.stream;
-    let f = d.filter;
-    let refused = options_refusal(o) != 0;
-    let large = (frame::MOST_SIDE < s.width) | (frame::MOST_SIDE < s.height);
-    let bad = bad_filter(f);
-    refused | large | bad
-}
-
-// No cut, no score, components of 0.0, no sums. An inner layer of the calls, and no call: it tests nothing.
-pub fn without_score(d: Detector, number: u32) -> Answer
-    ensures { result ≡ refused_answer d number }
-{
-    let none = stream::no_sums();
-    Answer {
-        number: number,
-        detector: d,
-        cut: MaybeTimestamp::None,
-        score: MaybeScore::None,
-        components: Components {
-            delta_hue: 0.0,
-            delta_sat: 0.0,
-            delta_lum: 0.0,
-            delta_edges: 0.0,
-        },
-        sums: none,
-    }
-}
-
-// `clear` keeps settings and size; all else is as at the start. It refuses by 15 alone.
-pub fn clear(d: Detector) -> Answer
-    ensures { result ≡ cleared_answer d }
-{
-    if is_bad(d) {
-        return without_score(d, 15);
-    }
-    let o = d.options;
-    let was = d.stream;
-    let cleared = stream::fresh_stream(was.width, was.height);
-    let f = filter::new();
-    without_score(
-        Detector {
-            options: o,
-            stream: cleared,
-            filter: f,
-        },
-        0,
-    )
+    f.merge_triggered & (f.merge_start.is_none() | f.last_above.is_none())
 }
 
 // The filter's step by a frame's score or none.
-fn filter_step(o: Options, f: Filter, ts: Timestamp, last: MaybeScore) -> FilterStep
+fn filter_step(o: Options, f: Filter, ts: Timestamp, last: Option<f64>) -> FilterStep
     ensures { result ≡ filter_step o f ts last }
 {
     match last {
-        MaybeScore::None => {
-            let unseeded = filter::new();
-            FilterStep {
-                filter: unseeded,
-                cut: MaybeTimestamp::None,
-            }
-        }
-        MaybeScore::Some(value) => {
-            filter::flash_filter(filter_options(o), f, ts, score::above(value, o.threshold))
-        }
+        None => FilterStep {
+            filter: filter::new(),
+            cut: None,
+        },
+        Some(value) => { filter::flash_filter(o.into(), f, ts, score::above(value, o.threshold)) }
     }
 }
 
-// An accepted frame, by its result: its sums, and the stream after it, which has its score. An inner layer of the frame calls, and no
-// call: it tests nothing.
-pub fn step(d: Detector, ts: Timestamp, p: Picture) -> Answer
-    ensures { result ≡ stepped d ts p }
-{
-    let s = p.stream;
-    let sums = p.sums;
-    let o = d.options;
-    let f = d.filter;
-    let last = s.last_score;
-    let deltas = s.last_components;
-    let next = filter_step(o, f, ts, last);
-    let after = next.filter;
-    let cut = next.cut;
-    let shown = stream::components_shown(deltas);
-    let detector = Detector {
-        options: o,
-        stream: s,
-        filter: after,
-    };
-    Answer {
-        number: 0,
-        detector: detector,
-        cut: cut,
-        score: last,
-        components: shown,
-        sums: sums,
+// Kept, point 2: the trait's functions, each on the fields of its own type.
+impl Detect for Detector {
+    ghost stream = { λ d. d.stream };
+
+    ghost settings = { λ d. picture_options d.options };
+
+    ghost bad = { bad_state };
+
+    ghost stepped = { stepped };
+
+    ghost cleared = { cleared_answer };
+
+    fn stream(self) -> Stream {
+        self.stream
     }
-}
 
-// The readers refuse nothing and show the record as it is.
-pub fn last_score(d: Detector) -> MaybeScore
-    ensures { result ≡ d.stream.last_score }
-{
-    let s = d.stream;
-    s.last_score
-}
+    fn picture_options(self) -> PictureOptions {
+        // Kept: two types that share names, each of which is named once.
+        PictureOptions {
+            weights: self.options.weights,
+            kernel_size: self.options.kernel_size,
+        }
+    }
 
-pub fn last_components(d: Detector) -> MaybeComponents
-    ensures { result ≡ d.stream.last_components }
-{
-    let s = d.stream;
-    s.last_components
+    #[tactic(auto, using(refusal::proofs::Numbers::positive), unfolding(crate::specs::State::bad_state))]
+    fn is_bad(self) -> bool {
+        check_options(self.options).is_err()
+            | frame::is_too_large(self.stream.width, self.stream.height)
+            | bad_filter(self.filter)
+    }
+
+    #[tactic(auto, unfolding(crate::specs::Step::stepped))]
+    fn step(self, ts: Timestamp, p: Picture) -> Step<Self> {
+        // Kept: one name for the score that is stepped by and answered.
+        let score = p.stream.last_score;
+        let next = filter_step(self.options, self.filter, ts, score);
+        Step {
+            // Kept: the stream is copied from the picture, the rest from the step.
+            detector: Detector {
+                stream: p.stream,
+                filter: next.filter,
+                ..self
+            },
+            cut: next.cut,
+            score,
+            components: stream::components_shown(p.stream.last_components),
+            sums: p.sums,
+        }
+    }
+
+    #[tactic(auto, unfolding(crate::specs::State::cleared_answer))]
+    fn clear(self) -> Result<Self, Refused<Self>> {
+        if self.is_bad() {
+            return Err(Refused {
+                refusal: Refusal::BadState,
+                state: self,
+            });
+        }
+        Ok(Detector {
+            stream: stream::fresh_stream(self.stream.width, self.stream.height),
+            filter: filter::new(),
+            ..self
+        })
+    }
+
+    ghost shows = { λ d ts p. unfold stepped in (refl, (refl, refl)) };
 }

@@ -1,17 +1,15 @@
 -- What holds of every state of a run: the settings are those it began with, no side exceeds 4,096, and no merge is triggered without start
 -- or last stamp. So no state of a run is bad. Assumes nothing.
+use Rattle.std.proofs.Common.{Float, None, Option, Some}
 use mathlib.Core.Path.{◌≡◌, refl, ap}
 use mathlib.Core.Bool.{false}
 use Rattle.timestamp.specs.declared.Timestamp.{Timestamp}
 use Rattle.frame.specs.Checks.{too_large}
-use Rattle.score.specs.declared.MaybeScore.{MaybeScore}
-use Rattle.score.specs.declared.MaybeScore.TheVariants.{None as no_score, Some as some_score}
 use Rattle.frame_call.proofs.Runs.{DetectorLaws}
 use Rattle.content.specs.declared.Options.{Options}
 use Rattle.content.specs.declared.Detector.{Detector}
-use Rattle.content.specs.declared.Answer.{Answer}
 use Rattle.content.specs.Options.{filter_options, picture_options, options_refusal}
-use Rattle.content.specs.State.{state_of, fresh, bad_filter, bad_state, refused_answer, cleared_answer}
+use Rattle.content.specs.State.{Answer, state_of, fresh, bad_filter, bad_state, refused_answer, cleared_answer}
 use Rattle.content.specs.Step.{filter_step, stepped}
 use Rattle.content_claim.proofs.Triggered.{flash-keeps}
 
@@ -23,10 +21,10 @@ pub record Good (o : Options) (d : Detector) : Type 0 where
 pub fresh-good : (o : Options) → Good o (fresh o)
 fresh-good o = record { options = refl; sides = refl; filter = refl }
 
-filter-stays : (d : Detector) (ts : Timestamp) (x : MaybeScore) → bad_filter d.filter ≡ false
+filter-stays : (d : Detector) (ts : Timestamp) (x : Option Float) → bad_filter d.filter ≡ false
     → bad_filter (filter_step d.options d.filter ts x).filter ≡ false
-filter-stays d ts no_score e = refl
-filter-stays d ts (some_score x) e = flash-keeps (filter_options d.options) d.filter ts _ e
+filter-stays d ts None e = refl
+filter-stays d ts (Some x) e = flash-keeps (filter_options d.options) d.filter ts _ e
 
 module _ (o : Options) (ok : options_refusal o ≡ 0) where
   pub not-bad : (d : Detector) → Good o d → bad_state d ≡ false

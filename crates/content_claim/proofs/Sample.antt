@@ -1,4 +1,5 @@
 -- An instance, computed: four frames of one pixel, as calls under the defaults, with a refused call among them.
+use Rattle.std.proofs.Common.{None, Some}
 use mathlib.Core.Path.{◌≡◌, refl}
 use mathlib.Core.Bool.{Bool, true, false}
 use mathlib.Core.List.{List, [], ◌∷◌, map}
@@ -7,7 +8,6 @@ use lib.IntN.{pos}
 use lib.Ieee.{add, mul, div, le, ne, of_int, is_nan}
 use Rattle.laws.specs.Lists.{tabulate, sum}
 use Rattle.timestamp.specs.declared.Timestamp.{Timestamp}
-use Rattle.timestamp.specs.declared.MaybeTimestamp.TheVariants.{None, At}
 use Rattle.timestamp.specs.Stamps.{distance, duration_since, saturating_sub}
 use Rattle.frame.specs.Checks.{plane_refusal, luma_refusal}
 use Rattle.arch_planes.specs.Difference.{sum_abs_diff, mean_of}
@@ -48,6 +48,6 @@ views : map (view_of defaults) lines ≡ seen 0 false ∷ seen 400000 true ∷ r
 unfolding tabulate sum sum_abs_diff mean_of packed at pixel short lines seen plane_refusal luma_refusal memory_refusal call_refusal frame_score sum_abs weighed score_of edges_enabled components_of luma_frame frame_sums add mul div le ne of_int
 views = refl
 
-cuts : answers (map (with_cut defaults) (content_run defaults lines)) ≡ None ∷ At (at 400000) ∷ None ∷ None ∷ None ∷ []
+cuts : answers (map (with_cut defaults) (content_run defaults lines)) ≡ None ∷ Some (at 400000) ∷ None ∷ None ∷ None ∷ []
 unfolding tabulate sum sum_abs_diff mean_of packed at pixel short lines plane_refusal luma_refusal memory_refusal sum_abs weighed score_of edges_enabled components_of luma_frame frame_sums add mul div le ne of_int is_nan settings_refusal any_too_heavy too_heavy all_zero bad_state call_refusal accepted pictured stepped is_scored next_stream distance duration_since saturating_sub virtual_seed seeded min_length_met num_merged merge_held merge_free filter_merge flash_filter
 cuts = refl

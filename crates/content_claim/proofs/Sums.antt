@@ -6,9 +6,8 @@ use Rattle.frame_call.specs.Call.{Call}
 use Rattle.frame_call.specs.Earlier.{none_yet, SumsHold}
 use Rattle.frame_call.proofs.Stretches.{SumsLaws, sums-hold}
 use Rattle.content.specs.declared.Options.{Options}
-use Rattle.content.specs.declared.Answer.{Answer}
 use Rattle.content.specs.Options.{picture_options, options_refusal}
-use Rattle.content.specs.State.{fresh, bad_state, refused_answer, cleared_answer}
+use Rattle.content.specs.State.{Answer, fresh, bad_state, refused_answer, cleared_answer}
 use Rattle.content.specs.Step.{stepped}
 use Rattle.content.proofs.Recomputed.{cleared-sums}
 use Rattle.content_claim.specs.Claim.{content_run}

@@ -15,9 +15,8 @@ use Rattle.frame_call.specs.Run.{run_from}
 use Rattle.frame_call.proofs.Runs.{run-claim, stays as runs-stay}
 use Rattle.content.specs.declared.Options.{Options}
 use Rattle.content.specs.declared.Detector.{Detector}
-use Rattle.content.specs.declared.Answer.{Answer}
 use Rattle.content.specs.Options.{defaults, filter_options, options_refusal}
-use Rattle.content.specs.State.{fresh, settled}
+use Rattle.content.specs.State.{Answer, fresh, settled}
 use Rattle.content.specs.Step.{called}
 use Rattle.content_claim.specs.Claim.{view_of, content_run, with_cut, ContentClaim}
 use Rattle.content_claim.proofs.Good.{Good, fresh-good, laws}

@@ -1,9 +1,8 @@
 -- The filter never triggers a merge without start or last stamp. Assumes nothing.
+use Rattle.std.proofs.Common.{None, Option, Some}
 use mathlib.Core.Path.{◌≡◌, refl}
 use mathlib.Core.Bool.{Bool, true, false, cond, not, ◌&&◌, ◌||◌}
 use Rattle.timestamp.specs.declared.Timestamp.{Timestamp}
-use Rattle.timestamp.specs.declared.MaybeTimestamp.{MaybeTimestamp}
-use Rattle.timestamp.specs.declared.MaybeTimestamp.TheVariants.{None, At}
 use Rattle.filter.specs.declared.FilterMode.{FilterMode}
 use Rattle.filter.specs.declared.FilterMode.TheVariants.{Suppress, Merge}
 use Rattle.filter.specs.declared.FilterOptions.{FilterOptions}
@@ -12,19 +11,19 @@ use Rattle.filter.specs.Flash.{seeded, min_length_met, advanced, suppressed, mer
 use Rattle.content.specs.State.{missing, bad_filter}
 
 -- with a last stamp, a merge that was triggered with a start is so still
-still : (triggered : Bool) (start last : MaybeTimestamp) → (triggered && (missing start || missing last)) ≡ false
+still : (triggered : Bool) (start last : Option Timestamp) → (triggered && (missing start || missing last)) ≡ false
     → (triggered && (missing start || false)) ≡ false
 still false start last e = refl
 still true None last e = e
-still true (At t) last e = refl
+still true (Some t) last e = refl
 
 -- or it is released
-held : (triggered : Bool) (start last : MaybeTimestamp) → (missing start || missing last) ≡ false → (triggered && (missing start || false)) ≡ false
+held : (triggered : Bool) (start last : Option Timestamp) → (missing start || missing last) ≡ false → (triggered && (missing start || false)) ≡ false
 held false start last e = refl
 held true start last e = still true start last e
 
 -- a merge that is triggered now starts now
-starts : (trigger : Bool) (ts : Timestamp) (start : MaybeTimestamp) → (trigger && (missing (cond trigger (At ts) start) || false)) ≡ false
+starts : (trigger : Bool) (ts : Timestamp) (start : Option Timestamp) → (trigger && (missing (cond trigger (Some ts) start) || false)) ≡ false
 starts true ts start = refl
 starts false ts start = refl
 

@@ -1,11 +1,11 @@
 -- A content call acts on what the filter's detector would keep as its view does. Assumes nothing.
+use Rattle.std.proofs.Common.{None, Some}
 use mathlib.Core.Path.{◌≡◌, refl, ap, subst}
 use mathlib.Core.Bool.{Bool, true, false, cond, not}
 use Prim.Native.Nat.{ℕ}
 use lib.Dec.{eqb}
 use lib.Ieee.{le}
 use Rattle.timestamp.specs.declared.Timestamp.{Timestamp}
-use Rattle.score.specs.declared.MaybeScore.TheVariants.{None as no_score, Some as some_score}
 use Rattle.score.specs.Scores.{score_of}
 use Rattle.stream.specs.Stream.{components_of, is_scored, next_stream}
 use Rattle.scoring.specs.Planes.{Planes}
@@ -15,9 +15,8 @@ use Rattle.frame_call.specs.Call.{Memory, Call, luma, bgr, hsv, clear, frame_num
 use Rattle.frame_call.proofs.Runs.{if-accepted, if-refused}
 use Rattle.content.specs.declared.Options.{Options}
 use Rattle.content.specs.declared.Detector.{Detector}
-use Rattle.content.specs.declared.Answer.{Answer}
 use Rattle.content.specs.Options.{filter_options, picture_options, options_refusal}
-use Rattle.content.specs.State.{bad_state, refused_answer}
+use Rattle.content.specs.State.{Answer, bad_state, refused_answer}
 use Rattle.content.specs.Step.{filter_step, stepped, called}
 use Rattle.content_claim.specs.Claim.{frame_score, view_of}
 use Rattle.content_claim.proofs.Good.{Good, not-bad, clear-is}
@@ -38,7 +37,7 @@ module _ (d : Detector) (u w h : ℕ) (p : Planes) (ts : Timestamp) (m : Memory)
   filtered-is : (scored : Bool)
       → filtered (filter_options d.options) scored d.filter seen_frame
       ≡ filter_step d.options d.filter ts
-      (cond scored (some_score (score_of (components_of (sums_of (picture_options d.options) scored w h p m.store)) d.options.weights)) no_score)
+      (cond scored (Some (score_of (components_of (sums_of (picture_options d.options) scored w h p m.store)) d.options.weights)) None)
   unfolding frame_score
   filtered-is true = refl
   filtered-is false = refl

@@ -1,9 +1,8 @@
 -- What holds of every list of content calls under settings that are accepted (RULES 14.5 to 14.11 and 14.13). Stretches, scored frames, cuts,
 -- choices and distances are those of `filter`'s Claim.antt. How a call counts there is said of the settings and the call alone, and not of the
 -- detector's state.
-use Rattle.std.specs.Prelude.{◌≡◌, true, cond, List, map, ℕ, Float}
+use Rattle.std.specs.Prelude.{◌≡◌, true, cond, List, map, ℕ, Float, Option}
 use Rattle.std.specs.Float.Ieee.{le}
-use Rattle.timestamp.specs.declared.MaybeTimestamp.{MaybeTimestamp}
 use Rattle.score.specs.Scores.{score_of}
 use Rattle.stream.specs.Stream.{components_of}
 use Rattle.scoring.specs.Planes.{Planes}
@@ -12,10 +11,10 @@ use Rattle.filter.specs.Claim.{StretchesHold}
 use Rattle.frame_call.specs.Call.{Call, by_call, sums_of}
 use Rattle.frame_call.specs.Run.{is_refused, MadeCall, run_from, RunClaim}
 use Rattle.content.specs.declared.Options.{Options}
-use Rattle.content.specs.declared.Answer.{Answer}
 use Rattle.content.specs.Options.{filter_options, picture_options}
-use Rattle.content.specs.State.{fresh, settled}
+use Rattle.content.specs.State.{Answer, fresh, settled}
 use Rattle.content.specs.Step.{called}
+use Rattle.timestamp.specs.declared.Timestamp.{Timestamp}
 
 -- the score of a frame under these settings, with the store as its call finds it (RULES 14.7)
 unfoldable pub frame_score : Options → (width height : ℕ) → Planes → (store : List ℕ) → Float
@@ -32,7 +31,7 @@ abbrev pub content_run : Options → List Call → List (MadeCall Answer)
 content_run o calls = run_from called (λ (a : Answer). a.detector) (fresh o) calls
 
 -- a call as `filter`'s claim sees it, with the cut or none that it returned
-abbrev pub with_cut : Options → MadeCall Answer → Answered MaybeTimestamp
+abbrev pub with_cut : Options → MadeCall Answer → Answered (Option Timestamp)
 with_cut o m = view_of o m.call brought m.outcome.answer.cut
 
 -- the claim about a list of content calls under settings that a settings call accepts (RULES 14.13)

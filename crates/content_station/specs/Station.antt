@@ -1,42 +1,24 @@
 -- The content detector as the station calls it: its record in words, the results of its calls, and settings by numbers.
 use Rattle.std.specs.Prelude.{cond, not, [], ◌∷◌, ℕ, eqb}
-use Rattle.frame.specs.Refusal.{first_that}
+use Rattle.refusal.specs.Refusal.{first_that}
 use Rattle.content.specs.declared.Detector.{Detector}
-use Rattle.content.specs.declared.Answer.{Answer}
 use Rattle.content.specs.declared.Options.{Options}
-use Rattle.content.specs.declared.Settled.{Settled}
 use Rattle.content.specs.Options.{defaults, options_refusal}
-use Rattle.content.specs.State.{fresh}
-use Rattle.frame_call.specs.Call.{Call, Outcome}
+use Rattle.content.specs.State.{Settled, fresh}
+use Rattle.frame_call.specs.Call.{Call}
 use Rattle.content.specs.Step.{called}
 use Rattle.content_words.specs.Record.{content_words, content_of}
 use Rattle.station_answer.specs.Settings.{no_mode}
-use Rattle.station_answer.specs.Promises.{Layout, Brought, Started}
+use Rattle.station_answer.specs.Promises.{Layout, Brought}
+use Rattle.station_answer.specs.Calls.{brought_by}
 
 -- the record of the content detector in words, and its weights
 abbrev pub content_layout : Layout Detector
 content_layout = record { words_of = content_words; held_by = content_of; weights_of = λ (d : Detector). d.options.weights }
 
--- the result of a call, by the outcome that the detector's definition gives
-abbrev pub brought_by : Outcome Answer → Brought Detector
-brought_by o =
-    record {
-      number = o.answer.number;
-      detector = o.answer.detector;
-      cut = o.answer.cut;
-      score = o.answer.score;
-      components = o.answer.components;
-      sums = o.answer.sums;
-      store = o.store;
-    }
-
 -- the result of a call of the content detector
 abbrev pub content_call : Detector → Call → Brought Detector
 content_call d c = brought_by (called d c)
-
--- what a settings call returns, by what the detector's definition gives
-abbrev pub started_by : Settled → Started Detector
-started_by x = record { number = x.number; detector = x.detector }
 
 -- the number that settings are refused by, or 0, where the mode is given by a number: 6 to 9, then 15 for a number that does not name a mode
 -- (RULES 15.5)

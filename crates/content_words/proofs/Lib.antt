@@ -1,4 +1,3 @@
 pub mod Made
-pub mod Reading
 pub mod Writing
 pub mod Refused

@@ -30,9 +30,9 @@ unfolding filter_words
 filter-length f = refl
 
 -- how many words a record has
-pub words-length : (d : Detector) → length (content_words d) ≡ 27
+pub words_length : (d : Detector) → length (content_words d) ≡ 27
 unfolding content_words options_words stream_words filter_words
-words-length d = refl
+words_length d = refl
 
 module _ (d : Detector) (a b c : List ℕ)
     (o : (a ≡ options_words d.options) × ((is_options a ≡ true) × (options_of a ≡ d.options)))

@@ -1,3 +1,4 @@
 pub mod Options
 pub mod Filter
 pub mod Record
+pub mod Calls

@@ -1,10 +1,9 @@
 -- The content detector's record in 27 words: settings, stream, filter (RULES 15.1, 15.4).
-use Rattle.std.specs.Prelude.{Bool, cond, ◌&&◌, List, ◌++◌, ℕ, take, drop}
+use Rattle.std.specs.Prelude.{Bool, cond, ◌&&◌, List, ◌++◌, ℕ, take, drop, None}
 use Rattle.content.specs.declared.Detector.{Detector}
 use Rattle.content.specs.Options.{defaults, options}
 use Rattle.content.specs.State.{fresh}
 use Rattle.stream.specs.Stream.{components_shown}
-use Rattle.score.specs.declared.MaybeComponents.TheVariants.{None as no_components}
 use Rattle.words.specs.Stream.{stream_words, is_stream, stream_of}
 use Rattle.content_words.specs.Options.{options_words, is_options, options_of}
 use Rattle.content_words.specs.Filter.{filter_words, is_filter, filter_of}
@@ -19,7 +18,7 @@ is_content w = is_options (take 11 w) && is_stream (take 10 (drop 11 w)) && is_f
 
 -- what is read where the words are not a record: the weights are zero, so that every call refuses it by 15
 unfoldable pub foreign : Detector
-foreign = fresh (options defaults.threshold defaults.min_duration (components_shown no_components) defaults.filter_mode defaults.kernel_size defaults.initial_cut)
+foreign = fresh (options defaults.threshold defaults.min_duration (components_shown None) defaults.filter_mode defaults.kernel_size defaults.initial_cut)
 
 -- the record that the words hold
 unfoldable pub content_of : List ℕ → Detector

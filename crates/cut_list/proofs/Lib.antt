@@ -1,10 +1,7 @@
--- `Tests` has what the tests of two stamps say, `Walks`, `Inserting`, `TakingOut` and `Wiping` what the loops know, `Order` and `Spans` what
--- holds of stamps in order, `Brought` what each operation brings.
+-- `Tests` has what the tests of two stamps say, `Order` and `Spans` what holds of stamps in order, `Walks` what the library's walks over stamps
+-- find, `Brought` what each operation brings.
 pub mod Tests
-pub mod Walks
-pub mod Inserting
-pub mod TakingOut
-pub mod Wiping
 pub mod Order
 pub mod Spans
+pub mod Walks
 pub mod Brought

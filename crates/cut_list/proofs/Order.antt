@@ -19,7 +19,6 @@ use Rattle.timestamp.specs.Stamps.{distance}
 use Rattle.cut_list.specs.Record.{follows, in_order}
 use Rattle.cut_list.specs.Change.{same, too_close, any_of, inserted}
 use Rattle.cut_list.specs.Find.{how_many}
-use Rattle.cut_list.proofs.Walks.{how_many-le}
 use Rattle.cut_list.proofs.Tests.{Past, follows-read, follows-make, past-trans, close-before, close-after, before-other, other-past, past-other, same_read}
 
 -- how many stamps are before t
@@ -46,6 +45,15 @@ rest-past d x (y ∷ ys) e =
     (q, all_past ys q (rest-past d y ys p.1))
 
 -- ---- counting
+
+pub how_many-le : (p : ℤ → Bool) (xs : List ℤ) → how_many p xs ≤ length xs
+unfolding how_many
+how_many-le p [] = omega arith
+how_many-le p (x ∷ xs) = by (p x) (how_many-le p xs)
+  where
+    by : (b : Bool) {n : ℕ} → n ≤ length xs → cond b 1 0 + n ≤ suc (length xs)
+    by true h = omega arith
+    by false h = omega arith
 
 pub none-have : (p : ℤ → Bool) (xs : List ℤ) → All (λ (x : ℤ). p x ≡ false) xs → how_many p xs ≡ 0
 unfolding how_many

@@ -3,7 +3,7 @@ use Prim.Native.Nat.{ℕ, ◌+◌, ◌≤◌, ◌<◌}
 use native.Mathlib.Omega.{arith}
 use mathlib.Core.Path.{◌≡◌, refl, sym, ◌∙◌}
 use mathlib.Core.Bool.{Bool, true, false, not, true≢false}
-use borrow.Author.Tests.{ne_eqb, ltb-true, ltb-false, eqb-true, eqb-false}
+use borrow.Author.Tests.{ne_eqb, eq-eqb, ltb-true, ltb-false, eqb-true, eqb-false}
 use lib.Dec.{ltb}
 use lib.IntN.{ℤ, pos, ◌+ℤ◌}
 use lib.Signed.{le_z, lt_z}
@@ -117,3 +117,7 @@ same_read t x e = by (lt_z x t) refl
     by : (b : Bool) → lt_z x t ≡ b → t ≡ x
     by true h = absurd (true≢false (sym e ∙ before-other t x h))
     by false h = eq-make {a = t} {b = x} (omega (whole, gap_up t x (omega whole), eqb-true (distance t x) 0 e))
+
+-- and a stamp is the same as itself
+pub same_refl : (t : ℤ) → same t t ≡ true
+same_refl t = eq-eqb (distance t t) 0 (omega (arith, gap_up t t (omega arith)))

@@ -2,7 +2,7 @@
 use Rattle.std.specs.Prelude.{ℕ, ◌+◌, ◌-◌, Bool, false, cond, not, ◌||◌, List, [], ◌∷◌, ◌++◌, eqb, ltb, ℤ, pos, drop, replicate}
 use Rattle.std.specs.Int.Signed.{lt_z}
 use Rattle.laws.specs.Lists.{leave_out}
-use Rattle.frame.specs.Refusal.{first_that}
+use Rattle.refusal.specs.Refusal.{first_that}
 use Rattle.timestamp.specs.Stamps.{distance}
 use Rattle.cut_list.specs.declared.CutList.{CutList}
 use Rattle.cut_list.specs.Record.{places, Held, held, cut_list, stamps_of, is_bad, list_number}

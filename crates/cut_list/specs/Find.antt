@@ -1,14 +1,28 @@
 -- Reading a list (RULES 17.7 to 17.9): the stamp nearest to a given one, the stamps within a span, the clip of a stamp. A refused reader answers
 -- none, 0 and 0, or 0.
-use Rattle.std.specs.Prelude.{ℕ, ◌+◌, Bool, cond, ◌&&◌, List, [], ◌∷◌, eqb, ltb, ℤ}
+use Rattle.std.specs.Prelude.{ℕ, ◌+◌, Bool, cond, ◌&&◌, List, [], ◌∷◌, eqb, ltb, ℤ, None, Option, Some}
 use Rattle.std.specs.Int.Signed.{le_z}
-use Rattle.timestamp.specs.declared.MaybeTimestamp.{MaybeTimestamp}
-use Rattle.timestamp.specs.declared.MaybeTimestamp.TheVariants.{None, At}
 use Rattle.timestamp.specs.Stamps.{distance}
-use Rattle.cut_list.specs.declared.NearestStamp.{NearestStamp}
-use Rattle.cut_list.specs.declared.StampsWithin.{StampsWithin}
-use Rattle.cut_list.specs.declared.ClipOfStamp.{ClipOfStamp}
 use Rattle.cut_list.specs.Record.{Held, stamps_of, is_bad, list_number}
+use Rattle.timestamp.specs.declared.Timestamp.{Timestamp}
+
+-- ---- what a reader answers: a number, 0 or that of the refusal, and what it found
+
+-- the nearest stamp, or none in an empty list
+pub record NearestStamp : Type 0 where
+  pub number : ℕ
+  pub nearest : Option Timestamp
+
+-- the stamps within a span: the place of the first, from 0, and how many there are; 0 and 0 if there is none
+pub record StampsWithin : Type 0 where
+  pub number : ℕ
+  pub first : ℕ
+  pub count : ℕ
+
+-- the clip of a stamp: how many stamps of the list are at or before it
+pub record ClipOfStamp : Type 0 where
+  pub number : ℕ
+  pub clip : ℕ
 
 -- ---- nearest
 
@@ -18,9 +32,9 @@ nearest_from t best [] = best
 nearest_from t best (x ∷ xs) = nearest_from t (cond (ltb (distance t x) (distance t best)) x best) xs
 
 -- the nearest of rising stamps, or none of none (RULES 17.7)
-unfoldable pub nearest_of : ℤ → List ℤ → MaybeTimestamp
+unfoldable pub nearest_of : ℤ → List ℤ → Option Timestamp
 nearest_of t [] = None
-nearest_of t (x ∷ xs) = At (record { micros = nearest_from t x xs })
+nearest_of t (x ∷ xs) = Some (record { micros = nearest_from t x xs })
 
 -- the stamp of the list that is nearest to a stamp (RULES 17.7)
 unfoldable pub nearest_in : Held → ℤ → NearestStamp

@@ -1,3 +1,4 @@
 pub mod Record
 pub mod Change
 pub mod Find
+pub mod Answers

@@ -2,7 +2,7 @@
 -- stamps. A stamp is a whole number of microseconds.
 use Rattle.std.specs.Prelude.{ℕ, Bool, true, not, ◌&&◌, ◌||◌, List, [], ◌∷◌, ltb, ℤ, pos, ◌+ℤ◌, length, take}
 use Rattle.std.specs.Int.Signed.{le_z, lt_z}
-use Rattle.frame.specs.Refusal.{first_that}
+use Rattle.refusal.specs.Refusal.{first_that}
 use Rattle.cut_list.specs.declared.CutList.{CutList}
 
 -- how many stamps a list holds at most, which is also how many places of the memory are the list's (RULES 17.1)

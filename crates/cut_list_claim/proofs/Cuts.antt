@@ -1,5 +1,6 @@
 -- The cuts of a stretch, in Suppress with a minimum of at least 1, can be added in their order to an empty list of that minimum (RULES 17.12).
 -- Assumes nothing else.
+use Rattle.std.proofs.Common.{Option}
 use Prim.Native.Nat.{ℕ, suc, ◌+◌, ◌-◌, ◌≤◌, min}
 use native.Mathlib.Nat.{zero-min, min-zero, suc-min-suc, zero-sub, sub-zero, suc-sub-suc}
 use native.Mathlib.Omega.{arith}
@@ -12,7 +13,6 @@ use lib.Signed.{◌≤ℤ◌}
 use Rattle.laws.specs.Lists.{All}
 use Rattle.laws.proofs.All.{all_map}
 use Rattle.laws.proofs.Whole.{sum-read, le_read}
-use Rattle.timestamp.specs.declared.MaybeTimestamp.{MaybeTimestamp}
 use Rattle.filter.specs.declared.FilterMode.{FilterMode}
 use Rattle.filter.specs.declared.FilterMode.TheVariants.{Suppress}
 use Rattle.filter.specs.declared.FilterOptions.{FilterOptions}
@@ -33,6 +33,7 @@ use Rattle.cut_list_claim.specs.Claim.{FitsList}
 use Rattle.cut_list_claim.proofs.Order.{Sorted, in-order-read, past-clear, insert_all}
 use Rattle.cut_list_claim.proofs.Steps.{bad-not, is_close, add-rows, add-leaves}
 use Rattle.cut_list_claim.proofs.Theorem.{new-sound}
+use Rattle.timestamp.specs.declared.Timestamp.{Timestamp}
 
 -- ---- stamps that keep a distance of at least 1 are in order
 
@@ -140,18 +141,18 @@ keeps-fit d one memory long ts k = sorted-fit d memory long ts (keeps-sorted d o
 
 module _ (o : FilterOptions) (mode : o.filter_mode ≡ Suppress) (one : 1 ≤ o.min_duration)
     (memory : List ℤ) (long : places ≤ length memory) where
-  stretch-fits : (t : Stretch MaybeTimestamp) → StretchKeeps o t → FitsList o.min_duration memory (cuts t)
+  stretch-fits : (t : Stretch (Option Timestamp)) → StretchKeeps o t → FitsList o.min_duration memory (cuts t)
   stretch-fits t keeps =
       let s : Suppressed o (scored_frames t) (cuts t) = subst (λ (m : FilterMode). InMode m o (scored_frames t) (cuts t)) mode keeps in
       keeps-fit o.min_duration one memory long (cuts t) (subst (KeepsDistance o.min_duration) s.are-cuts s.allowed.distance)
 
-  pub stretches-fit : (xs : List (Answered MaybeTimestamp)) → StretchesHold o xs
-      → All (λ (t : Stretch MaybeTimestamp). FitsList o.min_duration memory (cuts t)) (stretches xs)
+  pub stretches-fit : (xs : List (Answered (Option Timestamp))) → StretchesHold o xs
+      → All (λ (t : Stretch (Option Timestamp)). FitsList o.min_duration memory (cuts t)) (stretches xs)
   stretches-fit xs holds = all_map stretch-fits (stretches xs) holds.each-stretch
 
 -- the cuts that the content detector answers in a stretch
 pub cuts_fit : (o : Options) → options_refusal o ≡ 0 → o.filter_mode ≡ Suppress → 1 ≤ o.min_duration
     → (memory : List ℤ) → places ≤ length memory → (calls : List Call)
-    → All (λ (t : Stretch MaybeTimestamp). FitsList o.min_duration memory (cuts t)) (stretches (map (with_cut o) (content_run o calls)))
+    → All (λ (t : Stretch (Option Timestamp)). FitsList o.min_duration memory (cuts t)) (stretches (map (with_cut o) (content_run o calls)))
 cuts_fit o accepted mode one memory long calls =
     stretches-fit (filter_options o) mode one memory long (map (with_cut o) (content_run o calls)) (content-claim o accepted calls).holds

@@ -8,7 +8,7 @@ use lib.Dec.{ltb}
 use lib.IntN.{ℤ}
 use lib.ListN.{length}
 use lib.Signed.{lt_z}
-use borrow.Author.Tests.{eqb-false, eq-eqb, ltb-false, not-false}
+use borrow.Author.Tests.{eqb-false, ltb-false, not-false}
 use Rattle.laws.specs.Lists.{All, leave_out}
 use Rattle.laws.proofs.All.{all_map, leave_out-none}
 use Rattle.laws.proofs.Bools.{or-false}
@@ -16,14 +16,10 @@ use Rattle.laws.proofs.Whole.{whole, lt_z-false, lt-lt_z, le-lt_z}
 use Rattle.timestamp.specs.Stamps.{distance}
 use Rattle.cut_list.specs.Record.{follows, in_order}
 use Rattle.cut_list.specs.Change.{same, too_close, any_of, inserted}
-use Rattle.cut_list.proofs.Tests.{Past, follows-read, follows-make, gap_down, gap_up, close-before, close-after, past-other, same_read}
+use Rattle.cut_list.proofs.Tests.{Past, follows-read, follows-make, gap_down, close-before, close-after, past-other, same_read}
 use Rattle.cut_list.proofs.Order.{all_past, tail-ordered, rest-past}
 
 -- ---- two stamps
-
--- a stamp is the same as itself
-pub same_refl : (t : ℤ) → same t t ≡ true
-same_refl t = eq-eqb (distance t t) 0 (omega (arith, gap_up t t (omega arith)))
 
 -- a stamp that is not too close to another is past it or has it past itself
 clear-before : (d : ℕ) (t x : ℤ) → too_close d t x ≡ false → lt_z t x ≡ true → Past d t x

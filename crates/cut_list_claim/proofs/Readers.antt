@@ -1,8 +1,9 @@
 -- The readers of a list that is not bad agree with each other (RULES 17.13). Assumes nothing else.
+use Rattle.std.proofs.Common.{None, Option, Some}
 use Prim.Native.Nat.{ℕ, ◌≤◌, ◌<◌}
 use native.Mathlib.Omega.{arith}
 use native.Mathlib.Decide.{dec_lt}
-use mathlib.Core.Path.{◌≡◌, refl, sym, ap, ◌∙◌, subst}
+use mathlib.Core.Path.{◌≡◌, refl, sym, ◌∙◌, subst}
 use mathlib.Core.Bool.{Bool, true, false, cond, ◌||◌}
 use mathlib.Core.List.{List, [], ◌∷◌}
 use lib.Dec.{ltb}
@@ -13,19 +14,17 @@ use Rattle.laws.specs.Lists.{All}
 use Rattle.laws.proofs.Bools.{or-right-true}
 use Rattle.laws.proofs.Whole.{le_read, le-make, le-lt_z}
 use Rattle.timestamp.specs.declared.Timestamp.{Timestamp}
-use Rattle.timestamp.specs.declared.MaybeTimestamp.{MaybeTimestamp}
-use Rattle.timestamp.specs.declared.MaybeTimestamp.TheVariants.{None, At}
 use Rattle.timestamp.specs.Stamps.{distance}
 use Rattle.cut_list.specs.Record.{Held, stamps_of, in_order, is_bad}
 use Rattle.cut_list.specs.Change.{same, any_of}
 use Rattle.cut_list.specs.Find.{nearest_from, nearest_of, nearest_in, span_in, clip_of, clip_in}
-use Rattle.cut_list.proofs.Tests.{Past}
-use Rattle.cut_list.proofs.Walks.{nearer_of, stamp_of}
+use Rattle.cut_list.proofs.Tests.{Past, same_refl}
+use Rattle.cut_list.proofs.Walks.{nearer_of}
 use Rattle.cut_list.proofs.Order.{before, none_before}
 use Rattle.cut_list.proofs.Spans.{Within, span-some, span_none}
 use Rattle.cut_list.proofs.Brought.{sound}
 use Rattle.cut_list_claim.specs.Claim.{ReadersAgree}
-use Rattle.cut_list_claim.proofs.Order.{Sorted, same_refl}
+use Rattle.cut_list_claim.proofs.Order.{Sorted}
 use Rattle.cut_list_claim.proofs.Steps.{sorted}
 
 -- ---- span and clip
@@ -48,9 +47,9 @@ from_first d t x xs ordered = by (dec_lt 0 (clip_of t (x ∷ xs)))
 -- ---- nearest
 
 -- a stamp was found
-abbrev Found : MaybeTimestamp → Type 0
+abbrev Found : Option Timestamp → Type 0
 Found None = ⊥
-Found (At s) = Unit {0}
+Found (Some s) = Unit {0}
 
 at-or-before : {d : ℕ} (n x y : ℤ) → n ≤ℤ x → Past d x y → n ≤ℤ y
 at-or-before n x y h p = le-make {a = n} {b = y} (omega (arith, le_read {a = n} {b = x} h, p.later))
@@ -108,11 +107,11 @@ module _ (t : ℤ) where
     least : All (λ (x : ℤ). distance t n ≤ distance t x) xs
     earliest : All (λ (x : ℤ). distance t n ≡ distance t x → n ≤ℤ x) xs
 
-  nearest-is : (d : ℕ) (xs : List ℤ) (s : Timestamp) → Sorted d xs → nearest_of t xs ≡ At s → IsNearest xs s.micros
+  nearest-is : (d : ℕ) (xs : List ℤ) (s : Timestamp) → Sorted d xs → nearest_of t xs ≡ Some s → IsNearest xs s.micros
   unfolding nearest_of
   nearest-is d [] s o e = absurd (subst Found (sym e) tt)
   nearest-is d (x ∷ xs) s o e =
-      let n : nearest_from t x xs ≡ s.micros = ap stamp_of e in
+      let n : nearest_from t x xs ≡ s.micros = cc in
       rw (← n) (record { is-in = from-is-in x xs; least = from-is-least x xs; earliest = from-is-earliest d x xs o })
 
 -- ---- the readers of a list that is not bad
@@ -129,11 +128,11 @@ module _ (h : Held) (fine : is_bad h ≡ false) (t : ℤ) where
   unfolding span_in
   span-starts x xs e = rw fine (span-from x xs e).start
 
-  nearest-is-there : (x : ℤ) (xs : List ℤ) → stamps_of h ≡ x ∷ xs → (s : Timestamp) × ((nearest_in h t).nearest ≡ At s)
+  nearest-is-there : (x : ℤ) (xs : List ℤ) → stamps_of h ≡ x ∷ xs → (s : Timestamp) × ((nearest_in h t).nearest ≡ Some s)
   unfolding nearest_in nearest_of
   nearest-is-there x xs e = (record { micros = nearest_from t x xs }, rw (fine, e) refl)
 
-  nearest-found : (s : Timestamp) → (nearest_in h t).nearest ≡ At s → IsNearest t (stamps_of h) s.micros
+  nearest-found : (s : Timestamp) → (nearest_in h t).nearest ≡ Some s → IsNearest t (stamps_of h) s.micros
   unfolding nearest_in
   nearest-found s e = nearest-is t h.list.min_duration (stamps_of h) s (sorted h (sound h fine)) (rw fine at e)
 

@@ -1,5 +1,6 @@
 -- The places from 512 on are not read and not written: an operation on `first ++ xs`, where `first` has 512 places, is the operation on `first`, with
 -- xs behind it. Assumes nothing.
+use Rattle.std.proofs.Common.{None}
 use Prim.Native.Nat.{ℕ, ◌+◌, ◌≤◌, ◌<◌}
 use native.Mathlib.Omega.{arith}
 use mathlib.Core.Path.{◌≡◌, refl, sym, ap, ◌∙◌}
@@ -11,15 +12,11 @@ use lib.ListN.{length, take, drop, replicate, length-append}
 use lib.Seq.{take-append-le, drop-append-le, take_at, drop_at}
 use borrow.Author.Tests.{eqb-true, ltb-false, le-ltb}
 use Rattle.laws.specs.Lists.{leave_out}
-use Rattle.timestamp.specs.declared.MaybeTimestamp.TheVariants.{None}
-use Rattle.frame.specs.Refusal.{first_that}
+use Rattle.refusal.specs.Refusal.{first_that}
 use Rattle.cut_list.specs.declared.CutList.{CutList}
-use Rattle.cut_list.specs.declared.NearestStamp.{NearestStamp}
-use Rattle.cut_list.specs.declared.StampsWithin.{StampsWithin}
-use Rattle.cut_list.specs.declared.ClipOfStamp.{ClipOfStamp}
 use Rattle.cut_list.specs.Record.{places, Held, held, stamps_of, in_order, is_bad, list_number}
 use Rattle.cut_list.specs.Change.{Turn, or_refused, same, any_of, too_close, add_number, inserted, with_stamp, added, remove_number, without_stamp, removed, without_stamps, emptied}
-use Rattle.cut_list.specs.Find.{nearest_of, nearest_in, span_start, how_many, within, span_in, clip_of, clip_in}
+use Rattle.cut_list.specs.Find.{NearestStamp, StampsWithin, ClipOfStamp, nearest_of, nearest_in, span_start, how_many, within, span_in, clip_of, clip_in}
 use Rattle.cut_list.proofs.Brought.{sound}
 use Rattle.cut_list_claim.specs.Run.{Operation, add, remove, empty, nearest, span, clip, operated}
 use Rattle.cut_list_claim.specs.Claim.{RestUntouched}

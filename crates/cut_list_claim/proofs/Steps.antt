@@ -10,7 +10,7 @@ use lib.ListN.{length, take, drop, replicate, length-append, length-drop, length
 use lib.Seq.{length-take-le, take_at, drop-append-add, drop-drop}
 use borrow.Author.Tests.{eqb-true, eqb-false, le-ltb}
 use Rattle.laws.specs.Lists.{leave_out}
-use Rattle.frame.specs.Refusal.{first_that}
+use Rattle.refusal.specs.Refusal.{first_that}
 use Rattle.cut_list.specs.Record.{places, Held, held, cut_list, stamps_of, is_bad, list_number}
 use Rattle.cut_list.specs.Change.{Turn, same, too_close, any_of, add_number, inserted, with_stamp, added, remove_number, without_stamp, removed, without_stamps, emptied}
 use Rattle.cut_list.proofs.Brought.{Sound}

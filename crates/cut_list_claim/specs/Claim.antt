@@ -1,10 +1,9 @@
 -- What holds of every list of operations on a list of stamps (RULES 17.11), of the cuts that go into one (RULES 17.12), of the places from 512
 -- on (RULES 17.10), and of the readers together (RULES 17.13).
-use Rattle.std.specs.Prelude.{ℕ, ◌-◌, ◌≤◌, ◌<◌, min, ◌≡◌, true, false, List, ◌∷◌, ◌++◌, map, ℤ, pos, ◌+ℤ◌, length, get_or, take, drop, replicate, ◌≤ℤ◌, ◌<ℤ◌}
+use Rattle.std.specs.Prelude.{ℕ, ◌-◌, ◌≤◌, ◌<◌, min, ◌≡◌, true, false, List, ◌∷◌, ◌++◌, map, ℤ, pos, ◌+ℤ◌, length, get_or, take, drop, replicate, ◌≤ℤ◌, ◌<ℤ◌, Some}
 use Rattle.laws.specs.Lists.{All}
 use Rattle.timestamp.specs.Stamps.{distance}
 use Rattle.timestamp.specs.declared.Timestamp.{Timestamp}
-use Rattle.timestamp.specs.declared.MaybeTimestamp.TheVariants.{At}
 use Rattle.cut_list.specs.declared.CutList.{CutList}
 use Rattle.cut_list.specs.Record.{places, Held, held, new_list, stamps_of}
 use Rattle.cut_list.specs.Change.{same, any_of}
@@ -55,9 +54,9 @@ pub record ReadersAgree (h : Held) (t : ℤ) : Type 0 where
   -- and starts at the first place
   pub span-starts : (x : ℤ) (xs : List ℤ) → stamps_of h ≡ x ∷ xs → (span_in h x t).first ≡ 0
   -- a list with stamps has a nearest one
-  pub nearest-is-there : (x : ℤ) (xs : List ℤ) → stamps_of h ≡ x ∷ xs → (s : Timestamp) × ((nearest_in h t).nearest ≡ At s)
+  pub nearest-is-there : (x : ℤ) (xs : List ℤ) → stamps_of h ≡ x ∷ xs → (s : Timestamp) × ((nearest_in h t).nearest ≡ Some s)
   -- the nearest stamp is one of the list
-  pub nearest-is-in : (s : Timestamp) → (nearest_in h t).nearest ≡ At s → any_of (same s.micros) (stamps_of h) ≡ true
+  pub nearest-is-in : (s : Timestamp) → (nearest_in h t).nearest ≡ Some s → any_of (same s.micros) (stamps_of h) ≡ true
   -- no stamp of the list is closer, and of those as close it is the earliest
-  pub nearest-is-least : (s : Timestamp) → (nearest_in h t).nearest ≡ At s → All (λ (x : ℤ). distance t s.micros ≤ distance t x) (stamps_of h)
-  pub earliest-on-tie : (s : Timestamp) → (nearest_in h t).nearest ≡ At s → All (λ (x : ℤ). distance t s.micros ≡ distance t x → s.micros ≤ℤ x) (stamps_of h)
+  pub nearest-is-least : (s : Timestamp) → (nearest_in h t).nearest ≡ Some s → All (λ (x : ℤ). distance t s.micros ≤ distance t x) (stamps_of h)
+  pub earliest-on-tie : (s : Timestamp) → (nearest_in h t).nearest ≡ Some s → All (λ (x : ℤ). distance t s.micros ≡ distance t x → s.micros ≤ℤ x) (stamps_of h)

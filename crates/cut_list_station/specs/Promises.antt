@@ -1,16 +1,14 @@
 -- What the station's calls on a list promise (RULES 17.14). `s` is the record's words at entry and `s'` at exit, `m'` the stamps' memory at exit, `a`
 -- and `a'` the answer's words at entry and at exit, `r` the number that is returned.
-use Rattle.std.specs.Prelude.{◌≡◌, List, [], ◌∷◌, ℕ, ℤ}
-use Rattle.timestamp.specs.declared.MaybeTimestamp.{MaybeTimestamp}
+use Rattle.std.specs.Prelude.{◌≡◌, List, [], ◌∷◌, ℕ, ℤ, Option}
 use Rattle.words.specs.Choices.{stamp_tag, stamp_word, stamp_of}
 use Rattle.words.specs.Stream.{word_at}
 use Rattle.station_answer.specs.Answer.{after}
-use Rattle.cut_list.specs.declared.NearestStamp.{NearestStamp}
-use Rattle.cut_list.specs.declared.StampsWithin.{StampsWithin}
-use Rattle.cut_list.specs.declared.ClipOfStamp.{ClipOfStamp}
 use Rattle.cut_list.specs.Record.{new_list}
 use Rattle.cut_list.specs.Change.{Turn}
+use Rattle.cut_list.specs.Find.{NearestStamp, StampsWithin, ClipOfStamp}
 use Rattle.cut_list_station.specs.Words.{list_words, list_of}
+use Rattle.timestamp.specs.declared.Timestamp.{Timestamp}
 
 -- a new list of this minimum distance
 pub record NewContract (minimum : ℕ) (s' : List ℕ) : Type 0 where
@@ -31,11 +29,11 @@ pub record ChangeContract (t : Turn) (r : ℕ) (s s' : List ℕ) (m' : List ℤ)
   pub memory : m' ≡ t.after.memory
 
 -- the two words of the nearest stamp: whether there is one, and the stamp in two's complement or 0
-abbrev pub nearest_words : MaybeTimestamp → List ℕ
+abbrev pub nearest_words : Option Timestamp → List ℕ
 nearest_words n = stamp_tag n ∷ stamp_word n ∷ []
 
 -- the nearest stamp, or none, that two words are read as
-abbrev pub nearest_read : List ℕ → MaybeTimestamp
+abbrev pub nearest_read : List ℕ → Option Timestamp
 nearest_read a = stamp_of (word_at a 0) (word_at a 1)
 
 -- the nearest stamp; a reader is lent record and memory for reading alone, so that it leaves both as they were

@@ -1,5 +1,6 @@
 -- THE THEOREM: what `specs/Claim.antt` states holds of every list of calls that a station makes on a list, from the words that a new list wrote and
 -- memory of at least 512 places. It rests on the contracts of the station's calls and assumes nothing else.
+use Rattle.std.proofs.Common.{Option}
 use mathlib.Core.Path.{◌≡◌, refl, sym, ap, subst, ◌∙◌}
 use mathlib.Core.Bool.{false}
 use mathlib.Core.List.{List, [], ◌∷◌, map}
@@ -8,7 +9,6 @@ use lib.IntN.{ℤ}
 use lib.ListN.{length, drop}
 use Rattle.laws.specs.Lists.{All}
 use Rattle.laws.proofs.All.{all_map}
-use Rattle.timestamp.specs.declared.MaybeTimestamp.{MaybeTimestamp}
 use Rattle.filter.specs.declared.FilterMode.TheVariants.{Suppress}
 use Rattle.filter.specs.Claim.{Stretch, stretches, cuts_in, cuts}
 use Rattle.adaptive.specs.declared.Options.{Options as AdaptiveOptions}
@@ -27,6 +27,7 @@ use Rattle.cut_list_station.specs.Words.{list_of}
 use Rattle.cut_list_station.specs.Promises.{NewContract, ChangeContract}
 use Rattle.cut_list_station_claim.specs.Run.{ListCall, operation_of, operated_by, ListCallMade, by-add, by-remove, by-empty, by-nearest, by_span, by-clip, ListCallsMade, none, then}
 use Rattle.cut_list_station_claim.specs.Claim.{CallsOnList, FitsByCalls}
+use Rattle.timestamp.specs.declared.Timestamp.{Timestamp}
 
 -- ---- one call
 
@@ -111,7 +112,7 @@ fits-by-calls d m ts fits s s' m' ys wrote made e =
 -- asked of the detector's calls, `station_claim` proves of every list of them from the words of a settings call
 pub cuts_fit : (o : Options) (s : List ℕ) (zs : List StationCall) → ContentSpacing o s zs → o.filter_mode ≡ Suppress → 1 ≤ o.min_duration
     → (m : List ℤ) → places ≤ length m
-    → All (λ (x : Stretch MaybeTimestamp). FitsByCalls o.min_duration m (cuts x)) (stretches (map (with_cut_read o) zs))
+    → All (λ (x : Stretch (Option Timestamp)). FitsByCalls o.min_duration m (cuts x)) (stretches (map (with_cut_read o) zs))
 cuts_fit o s zs spacing mode one m long =
     all_map (λ x. fits-by-calls o.min_duration m (cuts x)) (stretches (map (with_cut_read o) zs))
     (stretches-fit (filter_options o) mode one m long (map (with_cut_read o) zs) spacing.holds)
@@ -119,7 +120,7 @@ cuts_fit o s zs spacing mode one m long =
 -- and so do those of an adaptive detector, from `clear` to `clear`
 pub adaptive-cuts-fit : (o : AdaptiveOptions) (s : List ℕ) (zs : List StationCall) → AdaptiveSpacing o s zs → 1 ≤ o.min_duration
     → (m : List ℤ) → places ≤ length m
-    → All (λ (cs : List MaybeTimestamp). FitsByCalls o.min_duration m (cuts_in cs)) (read_from_clear_to_clear zs)
+    → All (λ (cs : List (Option Timestamp)). FitsByCalls o.min_duration m (cuts_in cs)) (read_from_clear_to_clear zs)
 adaptive-cuts-fit o s zs spacing one m long =
     all_map (λ cs k. fits-by-calls o.min_duration m (cuts_in cs) (keeps-fit o.min_duration one m long (cuts_in cs) k))
     (read_from_clear_to_clear zs) spacing.distance

@@ -1,180 +1,79 @@
 // Clip cuts (RULES 11): reads frame lines on standard input to its end and writes the answers to standard output as it goes.
 #![tactic(auto)]
 
-ghost use Rattle.std.specs.Prelude.{◌≡◌, true, ◌≤◌, length};
+ghost use Rattle.std.specs.Prelude.{◌≡◌, IfOk, IfSome, OnOk};
 ghost use Rattle.session.specs.Feeding.{fed};
 ghost use Rattle.session.specs.Sessions.{state_of, last_state};
-ghost use Rattle.cuts.specs.Reads.{clamp_len, goes_on, AfterRead, FedSome};
+ghost use Rattle.cuts.specs.Reads.{goes_on, AfterRead, FedSome};
 
-use session::{HEADER, HELD, PIXELS, ROOM, SCRATCH, STORE, Session};
+use session::{ROOM, Session};
 use std::io;
 use std::io::Read;
 
 // A proved loop has to end, and nothing says that an input does: no run makes so many reads.
 const MOST_READS: u64 = u64::MAX;
 
-// What one read leaves: the session, how many bytes came (0: the input has ended, or the read failed), and whether all text was written.
-#[derive(Clone, Copy)]
-struct Turn {
-    session: Session,
-    count: usize,
-    wrote: bool,
-}
-
-// How the reads end: how many there were, and whether there is more to read.
-#[derive(Clone, Copy)]
-struct Ended {
-    reads: u64,
-    more: bool,
-}
-
-// Writes the first n bytes of out, or says why it cannot.
-fn write_out(rt: &(impl Print + Eprint), out: &[u8], n: usize) -> bool
-    requires { n ≤ length out.now }
-{
-    if let Err(e) = rt.write_all(&out[..n]) {
-        let _ = eprintln!(rt; "standard output: {e}");
-        return false;
-    }
-    true
-}
+// The length of a chunk, and of the buffer of the text.
+const BUFFER: usize = 65536;
 
 // Feeds a whole chunk: where the text of its lines fills `out`, it is written, and the rest of the chunk is fed again. Where a write fails,
-// any state is right, since the run ends. Any content of `out`, of the line past the session's length, and of the luma values, the scratch
-// and the magnitudes is right, here and below.
+// any state is right, since the run ends: its error is handed on to `main`, which says it. Any content of `out` is right, here and below.
 fn feed_chunk(
-    rt: &(impl Print + Eprint),
-    s: Session,
+    rt: &impl Print,
+    session: &mut Session,
     chunk: &[u8],
-    line: &mut [u8; HELD],
-    luma: &mut [u8; PIXELS],
-    store: &mut [u8; STORE],
-    scratch: &mut [u8; SCRATCH],
-    magnitudes: &mut [i32; PIXELS],
-    out: &mut [u8],
-) -> Turn
-    requires { 64 ≤ length out.old }
-    ensures count_value { result.count ≡ length chunk.now }
-    ensures store_after { result.wrote ≡ true → state_of result.session line.new store.new ≡ fed (state_of s line.old store.old) chunk.now }
+    out: &mut [u8; BUFFER],
+) -> io::Result<()>
+    ensures { OnOk result (state_of session.new ≡ fed (state_of session.old) chunk.now) }
 {
-    let mut state = s;
-    let mut a = 0;
-    while a < chunk.len() {
-        let f = session::feed(
-            state,
-            &chunk[a..],
-            line,
-            luma,
-            store,
-            scratch,
-            magnitudes,
-            out,
-        );
-        let next = f.session;
-        state = next;
-        if !write_out(rt, out, f.written) {
-            return Turn {
-                session: state,
-                count: chunk.len(),
-                wrote: false,
-            };
-        }
-        a += f.taken;
+    let mut taken = 0;
+    // Kept: how much of the rest is taken each time is told by `feed` alone, so that no range or iterator is plainer.
+    while taken < chunk.len() {
+        let f = session.feed(&chunk[taken..], out);
+        rt.write_all(&out[..f.written])?;
+        taken += f.taken;
     }
-    Turn {
-        session: state,
-        count: chunk.len(),
-        wrote: true,
-    }
+    Ok(())
 }
 
 // The end of the input: the last line, if no line feed ended it.
-fn finish(
-    rt: &(impl Print + Eprint),
-    s: Session,
-    line: &[u8; HELD],
-    luma: &mut [u8; PIXELS],
-    store: &mut [u8; STORE],
-    scratch: &mut [u8; SCRATCH],
-    magnitudes: &mut [i32; PIXELS],
-) -> Turn
-    ensures store_after { state_of result.session line.now store.new ≡ last_state (state_of s line.now store.old) }
-    ensures count_value { result.count ≡ 0 }
+fn finish(rt: &impl Print, session: &mut Session) -> io::Result<()>
+    ensures { state_of session.new ≡ last_state (state_of session.old) }
 {
     let mut out = [0u8; ROOM];
-    let f = session::finish(s, line, luma, store, scratch, magnitudes, &mut out);
-    let wrote = write_out(rt, &out, f.written);
-    let next = f.session;
-    Turn {
-        session: next,
-        count: 0,
-        wrote,
-    }
+    let written = session.finish(&mut out);
+    rt.write_all(&out[..written])
 }
 
-// How many bytes of `chunk` a read that gave `got` brought: none where it failed, and never more than there are.
-fn count(got: isize, chunk: &[u8]) -> usize
-    ensures in_bounds { result ≤ length chunk.now }
-    ensures value { result ≡ clamp_len got (length chunk.now) }
-{
-    if got < 0 {
-        return 0;
-    }
-    let n = got as usize;
-    if n < chunk.len() {
-        return n;
-    }
-    chunk.len()
-}
-
-// What follows a read that gave `got` and left its bytes at the start of `chunk`: all of them are fed. Where nothing came the input has
-// ended; where the read failed, nothing is fed.
+// What follows a read that gave `got`, none where it failed, and left its bytes at the start of `chunk`: all of them are fed, and never more
+// than there are. Where nothing came the input has ended; where the read failed, nothing is fed. Gives how many came.
+#[tactic(auto, unfolding(crate::specs::Reads::after_read))]
 fn take_read(
-    rt: &(impl Print + Eprint),
-    s: Session,
-    got: isize,
+    rt: &impl Print,
+    session: &mut Session,
+    got: Option<usize>,
     chunk: &[u8],
-    line: &mut [u8; HELD],
-    luma: &mut [u8; PIXELS],
-    store: &mut [u8; STORE],
-    scratch: &mut [u8; SCRATCH],
-    magnitudes: &mut [i32; PIXELS],
-    out: &mut [u8],
-) -> Turn
-    requires { 64 ≤ length out.old }
-    ensures { AfterRead (state_of s line.old store.old) got chunk.now (state_of result.session line.new store.new) result.count result.wrote }
+    out: &mut [u8; BUFFER],
+) -> io::Result<usize>
+    ensures { IfOk result (λ count. AfterRead (state_of session.old) got chunk.now (state_of session.new) count) }
 {
-    if got < 0 {
-        return Turn {
-            session: s,
-            count: 0,
-            wrote: true,
-        };
+    let Some(n) = got else { return Ok(0) };
+    let count = n.min(chunk.len());
+    if count == 0 {
+        finish(rt, session)?;
+    } else {
+        feed_chunk(rt, session, &chunk[..count], out)?;
     }
-    let n = count(got, chunk);
-    if n == 0 {
-        return finish(rt, s, line, luma, store, scratch, magnitudes);
-    }
-    feed_chunk(
-        rt,
-        s,
-        &chunk[..n],
-        line,
-        luma,
-        store,
-        scratch,
-        magnitudes,
-        out,
-    )
+    Ok(count)
 }
 
-// Reads into the start of `chunk`: how many bytes came, or a number below 0 where the read failed, and says why it did.
-fn read_chunk(rt: &impl Eprint, input: &mut impl Read, chunk: &mut [u8]) -> isize {
+// Reads into the start of `chunk`: how many bytes came, or none where the read failed, and says why it did.
+fn read_chunk(rt: &impl Eprint, input: &mut impl Read, chunk: &mut [u8]) -> Option<usize> {
     match input.read(chunk) {
-        Ok(n) => n as isize,
+        Ok(n) => Some(n),
         Err(e) => {
             let _ = eprintln!(rt; "standard input: {e}");
-            -1
+            None
         }
     }
 }
@@ -183,92 +82,57 @@ fn read_chunk(rt: &impl Eprint, input: &mut impl Read, chunk: &mut [u8]) -> isiz
 fn read_some(
     rt: &(impl Print + Eprint),
     input: &mut impl Read,
-    s: Session,
-    line: &mut [u8; HELD],
-    luma: &mut [u8; PIXELS],
-    store: &mut [u8; STORE],
-    scratch: &mut [u8; SCRATCH],
-    magnitudes: &mut [i32; PIXELS],
+    session: &mut Session,
     chunk: &mut [u8],
-    out: &mut [u8],
-) -> Turn
-    requires { 64 ≤ length out.old }
-    ensures { FedSome (state_of s line.old store.old) chunk.new (state_of result.session line.new store.new) result.count result.wrote }
+    out: &mut [u8; BUFFER],
+) -> io::Result<usize>
+    ensures { IfOk result (λ count. FedSome (state_of session.old) chunk.new (state_of session.new) count) }
 {
     let got = read_chunk(rt, input, chunk);
-    take_read(
-        rt, s, got, chunk, line, luma, store, scratch, magnitudes, out,
-    )
+    take_read(rt, session, got, chunk, out)
 }
 
-// Whether to read again: until a read gives no bytes, or a write fails.
-fn goes_on(count: usize, wrote: bool) -> bool
-    ensures { result ≡ goes_on count wrote }
+// Whether to read again: until a read gives no bytes.
+fn goes_on(count: usize) -> bool
+    ensures { result ≡ goes_on count }
 {
-    if count == 0 {
-        return false;
-    }
-    wrote
+    count > 0
 }
 
-// Reads and feeds to the end of the input: there is more to read only after the most reads. What was read before is overwritten, so this
-// contract cannot speak of the whole input; `session::run` does, on memory.
+// Writes the first line, then reads and feeds to the end of the input. Gives after how many reads there is more to read, none where the input
+// has ended: there is more only after the most reads. What was read before is overwritten, so this contract cannot speak of the whole input;
+// `session::run` does, on memory.
 fn run(
     rt: &(impl Print + Eprint),
     input: &mut impl Read,
-    line: &mut [u8; HELD],
-    luma: &mut [u8; PIXELS],
-    store: &mut [u8; STORE],
-    scratch: &mut [u8; SCRATCH],
-    magnitudes: &mut [i32; PIXELS],
     chunk: &mut [u8],
-    out: &mut [u8],
-) -> Ended
-    requires { 64 ≤ length out.old }
-    ensures { result.more ≡ true → result.reads ≡ 18446744073709551615 }
+    out: &mut [u8; BUFFER],
+) -> io::Result<Option<u64>>
+    ensures { IfOk result (λ more. IfSome more (λ reads. reads ≡ 18446744073709551615)) }
 {
-    let mut state = session::new();
-    let mut reads: u64 = 0;
-    while reads < MOST_READS {
-        let t = read_some(
-            rt, input, state, line, luma, store, scratch, magnitudes, chunk, out,
-        );
+    rt.write_all(&session::header())?;
+    let mut session = Session::new();
+    // Kept: `for _ in reads.by_ref()` of a range and its `start` in place of this count was tried, and the proof of the last `start` did not close.
+    let mut reads = 0;
+    for _ in 0..MOST_READS {
+        let count = read_some(rt, input, &mut session, chunk, out)?;
         reads += 1;
-        if !goes_on(t.count, t.wrote) {
-            return Ended { reads, more: false };
+        if !goes_on(count) {
+            return Ok(None);
         }
-        let next = t.session;
-        state = next;
     }
-    Ended { reads, more: true }
+    Ok(Some(reads))
 }
 
 fn main(rt: HostRuntime) -> io::Result<()> {
-    let header = session::header();
-    if !write_out(&rt, &header, HEADER) {
-        return Ok(());
+    let mut chunk = [0u8; BUFFER];
+    let mut out = [0u8; BUFFER];
+    match run(&rt, &mut rt.stdin(), &mut chunk, &mut out) {
+        Ok(None) => Ok(()),
+        Ok(Some(_)) => eprintln!(rt; "standard input: too many reads"),
+        Err(e) => {
+            let _ = eprintln!(rt; "standard output: {e}");
+            Ok(())
+        }
     }
-    let mut line = [0u8; HELD];
-    let mut luma = [0u8; PIXELS];
-    let mut store = [0u8; STORE];
-    let mut scratch = [0u8; SCRATCH];
-    let mut magnitudes = [0i32; PIXELS];
-    let mut chunk = [0u8; 65536];
-    let mut out = [0u8; 65536];
-    let mut input = rt.stdin();
-    let e = run(
-        &rt,
-        &mut input,
-        &mut line,
-        &mut luma,
-        &mut store,
-        &mut scratch,
-        &mut magnitudes,
-        &mut chunk,
-        &mut out,
-    );
-    if e.more {
-        eprintln!(rt; "standard input: too many reads")?;
-    }
-    Ok(())
 }

@@ -6,15 +6,16 @@ use mathlib.Core.List.{List, [], ◌∷◌, ◌++◌}
 use Prim.Native.Nat.{ℕ, zero, suc, ◌+◌, ◌-◌, ◌*◌, ◌/◌, ◌%◌, ◌^◌, ◌<◌, ◌≤◌}
 use native.Mathlib.Nat.{pow-suc}
 use native.Mathlib.Omega.{arith}
-use borrow.Author.Tests.{le-leb, lt-leb, ltb-true}
+use borrow.Author.Tests.{le-leb, lt-leb, ltb-true, ne_eqb}
 use lib.Dec.{leb, ltb, leb-zero}
 use lib.IntN.{ℤ, pos, negsuc}
-use lib.ListN.{length, get_or, length-append}
+use lib.ListN.{length, length-append}
+use Rattle.std.proofs.Common.{Some}
 use mir.Syntax.{w64}
 use mir.Val.{SFits}
-use Rattle.decimal.specs.Reading.{is_digit, all_digits, number_from, number, is_up_to, number_if, number_read, stamp_read}
+use Rattle.decimal.specs.Reading.{is_digit, all_digits, number_from, number, is_up_to, number_read, stamp_read}
 use Rattle.decimal.specs.Writing.{digits, decimal, stamp_text}
-use Rattle.decimal.proofs.Numbers.{some_number, stamp-minus, stamp-plus}
+use Rattle.decimal.proofs.Numbers.{some_number, number-some, starts, stamp-minus, stamp-plus}
 
 from-join : (n : ℕ) (a b : List ℕ) → number_from n (a ++ b) ≡ number_from (number_from n a) b
 unfolding number_from
@@ -60,28 +61,32 @@ digits-some k n = by-test (ltb n 10)
     by-test false e = omega (arith, length-append (digits k (n / 10)) ((48 + n % 10) ∷ []))
 
 -- a minus is no digit
-no_minus : (l : List ℕ) → all_digits l ≡ true → (length l ≡ 0 → ⊥) → get_or l 0 0 ≡ 45 → ⊥
+no_minus : (l : List ℕ) → all_digits l ≡ true → starts l ≡ false
 unfolding all_digits
-no_minus [] all some e = some refl
-no_minus (b ∷ bs) all some e = let low : leb 48 b ≡ false = lt-leb 48 b (omega arith) in false≢true (sym (rw low) ∙ all)
+no_minus [] all = refl
+no_minus (b ∷ bs) all = let other = ne_eqb b 45 (digit b bs all) in rw other refl
+  where
+    digit : (b : ℕ) (bs : List ℕ) → (is_digit b && all_digits bs) ≡ true → b ≡ 45 → ⊥
+    digit b bs all e = let low : leb 48 b ≡ false = lt-leb 48 b (omega arith) in false≢true (sym (rw low) ∙ all)
 
 -- a number of 64 bits reads back
-pub number-back : (most n : ℕ) → n ≤ most → n < 2 ^ 64 → number_read most (decimal n) ≡ number_if true n
+pub number-back : (most n : ℕ) → n ≤ most → n < 2 ^ 64 → number_read most (decimal n) ≡ Some n
 unfolding number_read is_up_to
 number-back most n fits small =
     let some : 0 < length (decimal n) = omega (arith, digits-some 19 n) in
     rw (some_number (decimal n) some, digits-all 20 n, digits_number 20 n (omega arith), le-leb n most fits)
 
 -- and so does a stamp
-pub stamp-back : (z : ℤ) → SFits w64 z → stamp_read (stamp_text z) ≡ record { ok = true; stamp = record { micros = z } }
+pub stamp-back : (z : ℤ) → SFits w64 z → stamp_read (stamp_text z) ≡ Some (record { micros = z })
 unfolding stamp_text
 stamp-back (pos n) f =
     let h : n < 9223372036854775808 = f.sfits in
-    rw (leb-zero n)
-    (sym (stamp-plus (decimal n) (number_if true n) (pos n) (digits-some 19 n) (no_minus (decimal n) (digits-all 20 n) (digits-some 19 n)) (sym (number-back 9223372036854775807 n (omega arith) (omega arith))) refl))
+    let back = number-some _ n _ (number-back 9223372036854775807 n (omega arith) (omega arith)) in
+    rw (leb-zero n, stamp-plus (decimal n) (no_minus (decimal n) (digits-all 20 n)), back.0, back.1)
 stamp-back (negsuc n) f =
     let h : n < 9223372036854775808 = f.sfits in
-    sym (stamp-minus (45 ∷ decimal (suc n)) (number_if true (suc n)) (negsuc n) (λ e. omega arith) refl (sym (number-back 9223372036854775808 (suc n) (omega arith) (omega arith))) refl)
+    let back = number-some _ (suc n) _ (number-back 9223372036854775808 (suc n) (omega arith) (omega arith)) in
+    rw (stamp-minus (45 ∷ decimal (suc n)) refl, back.0, back.1)
 
 -- `0`, `400000`, `-1`, by computation
 texts : decimal 0 ∷ decimal 400000 ∷ stamp_text (negsuc 0) ∷ [] ≡ (48 ∷ []) ∷ (52 ∷ 48 ∷ 48 ∷ 48 ∷ 48 ∷ 48 ∷ []) ∷ (45 ∷ 49 ∷ []) ∷ []

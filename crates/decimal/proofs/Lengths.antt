@@ -1,12 +1,11 @@
--- The digits of a number one by one, and how long the texts of numbers and stamps are.
+-- How long the texts of numbers and stamps are.
 use mathlib.Core.Path.{◌≡◌, refl}
 use mathlib.Core.Bool.{Bool, true, false, cond}
 use mathlib.Core.List.{[], ◌∷◌, ◌++◌}
-use Prim.Native.Nat.{ℕ, zero, suc, ◌+◌, ◌-◌, ◌/◌, ◌%◌, ◌^◌, ◌≤◌, ◌<◌}
+use Prim.Native.Nat.{ℕ, zero, suc, ◌+◌, ◌/◌, ◌%◌, ◌^◌, ◌≤◌, ◌<◌}
 use native.Mathlib.Nat.{pow-suc}
-use native.Mathlib.Numerals.{sub-one}
 use native.Mathlib.Omega.{arith}
-use borrow.Author.Tests.{lt-ltb, le-ltb, ltb-false}
+use borrow.Author.Tests.{ltb-false}
 use lib.Dec.{ltb, leb-zero}
 use lib.IntN.{ℤ, pos, negsuc, nat_abs}
 use lib.ListN.{length, length-append}
@@ -14,16 +13,6 @@ use lib.Signed.{le_z}
 use mir.Syntax.{w64}
 use mir.Val.{SFits}
 use Rattle.decimal.specs.Writing.{digits, decimal, stamp_text}
-
-pub digits-one : (k n : ℕ) → (k ≡ 0 → ⊥) → n < 10 → digits k n ≡ (48 + n) ∷ []
-unfolding digits
-digits-one zero n some h = absurd (some refl)
-digits-one (suc k) n some h = rw (lt-ltb n 10 h)
-
-pub digits_more : (k n : ℕ) → (k ≡ 0 → ⊥) → 10 ≤ n → digits k n ≡ digits (k - 1) (n / 10) ++ ((48 + n % 10) ∷ [])
-unfolding digits
-digits_more zero n some h = absurd (some refl)
-digits_more (suc k) n some h = rw (le-ltb n 10 h, sub-one (suc k))
 
 pub digits-length : (k n : ℕ) → length (digits k n) ≤ k
 unfolding digits
@@ -34,16 +23,16 @@ digits-length (suc k) n = by-test (ltb n 10) (digits-length k (n / 10))
     by-test true h = omega arith
     by-test false h = omega (arith, length-append (digits k (n / 10)) ((48 + n % 10) ∷ []))
 
-pub decimal-length : (n : ℕ) → length (decimal n) ≤ 20
-decimal-length n = digits-length 20 n
+pub decimal_length : (n : ℕ) → length (decimal n) ≤ 20
+decimal_length n = digits-length 20 n
 
 pub stamp-length : (z : ℤ) → length (stamp_text z) ≤ 21
 unfolding stamp_text
 stamp-length z = by-test (le_z (pos 0) z)
   where
     by-test : (up : Bool) → length (cond up (decimal (nat_abs z)) (45 ∷ decimal (nat_abs z))) ≤ 21
-    by-test true = omega (arith, decimal-length (nat_abs z))
-    by-test false = omega (arith, decimal-length (nat_abs z))
+    by-test true = omega (arith, decimal_length (nat_abs z))
+    by-test false = omega (arith, decimal_length (nat_abs z))
 
 -- a number below 10^(k + 1) has at most k + 1 digits
 pub digits-short : (j k n : ℕ) → n < 10 ^ suc k → length (digits j n) ≤ suc k

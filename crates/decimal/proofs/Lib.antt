@@ -1,7 +1,7 @@
--- Laws of texts placed one after the other, of their lengths, of the parts of a text, of numbers read digit by digit, and of what is
--- written and read back.
+-- Laws of texts placed one after the other, of their lengths, of what std prints, of numbers read digit by digit, and of what is written
+-- and read back.
 pub mod Writes
 pub mod Lengths
-pub mod Split
+pub mod Printed
 pub mod Numbers
 pub mod Back

@@ -1,7 +1,6 @@
 -- Numbers and stamps in a text (RULES 11.2): decimal, with leading zeros allowed and a minus only before a stamp.
-use Rattle.std.specs.Prelude.{Bool, true, false, cond, ◌&&◌, List, [], ◌∷◌, ℕ, ◌+◌, ◌-◌, ◌*◌, eqb, leb, ℤ, pos, neg_ℤ}
-use Rattle.decimal.specs.declared.Number.{Number}
-use Rattle.decimal.specs.declared.Stamp.{Stamp}
+use Rattle.std.specs.Prelude.{Bool, true, false, cond, ◌&&◌, List, [], ◌∷◌, ℕ, ◌+◌, ◌-◌, ◌*◌, eqb, leb, ℤ, pos, neg_ℤ, Option, Some, None}
+use Rattle.timestamp.specs.declared.Timestamp.{Timestamp}
 
 -- a digit: `0` to `9`
 abbrev pub is_digit : ℕ → Bool
@@ -39,14 +38,14 @@ unfoldable pub stamp_of : List ℕ → ℤ
 stamp_of [] = pos 0
 stamp_of (b ∷ bs) = cond (eqb b 45) (neg_ℤ (pos (number bs))) (pos (number (b ∷ bs)))
 
--- a number that was read; 0 where there is none
-abbrev pub number_if : Bool → ℕ → Number
-number_if is n = record { ok = is; value = cond is n 0 }
+-- a number that was read, if there is one
+abbrev pub number_if : Bool → ℕ → Option ℕ
+number_if is n = cond is (Some n) None
 
 -- what a text says as a number of at most `most`
-unfoldable pub number_read : ℕ → List ℕ → Number
+unfoldable pub number_read : ℕ → List ℕ → Option ℕ
 number_read most bs = number_if (is_up_to most bs) (number bs)
 
 -- what a text says as a stamp
-unfoldable pub stamp_read : List ℕ → Stamp
-stamp_read bs = record { ok = is_stamp bs; stamp = record { micros = cond (is_stamp bs) (stamp_of bs) (pos 0) } }
+unfoldable pub stamp_read : List ℕ → Option Timestamp
+stamp_read bs = cond (is_stamp bs) (Some (record { micros = stamp_of bs })) None

@@ -24,13 +24,14 @@ struct Lines {
 fn raise(cell: &mut Cell, by: &Cell)
     ensures { (j : ℕ) → j < 16 → slice_index cell.new j ≡ max (slice_index cell.old j) (slice_index by.now j) }
 {
-    // Kept: an index, here and below. With `iter_mut().zip(by)` or `iter_mut().rev()` the `ensures` stays open: a proof then knows no element written.
+    // Kept: an index, here and below. With `iter_mut().zip(by)` (tried here) or `iter_mut().rev()` the `ensures` stays open: a proof then knows no element written.
     for (j, x) in cell.iter_mut().enumerate() {
         *x = (*x).max(by[j]);
     }
 }
 
 // The largest from the first cell up to each.
+// Kept: beside `suffixes`, as it says there.
 fn prefixes(a: &[Cell], r: &mut [Cell])
     requires { length r.old ≡ length a.now }
     ensures { Cells (length a.now) 16 (λ i j. max_in 0 (i + 1) (lane a.now j)) r.new }
@@ -43,6 +44,7 @@ fn prefixes(a: &[Cell], r: &mut [Cell])
 }
 
 // The largest from each cell up to the last, in place.
+// Kept: beside `prefixes`, which goes the other way and into another slice.
 fn suffixes(s: &mut [Cell])
     ensures { Cells (length s.old) 16 (λ i j. max_in i (length s.old) (lane s.old j)) s.new }
 {
@@ -82,7 +84,8 @@ fn window_maxima(s: &[Cell], r: &[Cell], last: usize, lo: usize, hi: usize) -> C
     cell
 }
 
-// Kept: each method asks for `Apart`, which is no ghost field of `Lines`: it speaks of the plane's length and the number of cells, which are none of its fields.
+// Kept: `gather`, `scatter` and `dilate` ask for `Apart`, which is no ghost field of `Lines`: it speaks of the plane's length and the number of
+// cells, which are none of its fields.
 impl Lines {
     // The cell becomes place i of each line.
     fn gather_cell(self, plane: &[u8], i: usize, cell: &mut Cell)
@@ -126,6 +129,7 @@ impl Lines {
         let half = half as usize;
         let b = 2 * half + 1;
         let last = (count - 1) / b * b;
+        // Kept: i is the middle of a window over both arrays, and a place of the lines: an element of neither slice.
         for i in 0..count {
             let lo = i.saturating_sub(half);
             let hi = (i + half).min(count - 1);
@@ -147,6 +151,7 @@ impl Lines {
 }
 
 // The same for any number of lines of count places: place i of line j is place i * step + j * across of the plane.
+// Kept: count is the length of a line, not of the plane.
 fn dilate_lines(plane: &mut [u8], step: usize, across: usize, count: usize, lines: usize, half: u32)
     requires count_bound { count ≤ 4096 }
     requires apart { Apart 0 step across count lines (length plane.old) }
@@ -172,6 +177,7 @@ fn dilate_lines(plane: &mut [u8], step: usize, across: usize, count: usize, line
 
 // Each byte of a frame of w columns and h rows becomes the largest in the k × k window about it, clipped to the frame.
 // The callers pass an odd k of at least 3. For any k the window reaches k / 2 to each side.
+// Kept: plain parameters, as the functions under the frame records have (RULES 16.1).
 pub fn dilate(plane: &mut [u8], w: usize, h: usize, k: u32)
     requires w_bound { (w ≤ 4096) × (h ≤ 4096) }
     requires plane_len { length plane.old ≡ w * h }

@@ -1,20 +1,22 @@
 -- A fresh filter over a list of scored frames, and laws on stamps that keep a distance. Assumes nothing.
+use Rattle.std.proofs.Common.{Option}
 use Prim.Native.Nat.{ℕ, ◌≤◌, zero-le, suc-le-suc}
 use mathlib.Core.List.{List, [], ◌∷◌}
 use lib.IntN.{ℤ, pos, ◌+ℤ◌}
 use lib.ListN.{length}
 use lib.Signed.{◌≤ℤ◌}
-use Rattle.timestamp.specs.declared.MaybeTimestamp.{MaybeTimestamp}
-use Rattle.laws.proofs.Whole.{whole, sum-read}
+use native.Mathlib.Omega.{arith}
+use Rattle.std.proofs.lemmas.Int.{ints}
 use Rattle.filter.specs.declared.FilterOptions.{FilterOptions}
 use Rattle.filter.specs.declared.Filter.{Filter}
 use Rattle.filter.specs.Flash.{flash_filter}
 use Rattle.filter.specs.Calls.{Frame}
 use Rattle.laws.specs.Lists.{All}
 use Rattle.filter.specs.Claim.{Choice, none, skip, pick, KeepsDistance, stamps, cuts_in}
+use Rattle.timestamp.specs.declared.Timestamp.{Timestamp}
 
 -- what the filter φ answers to scored frames, one after another
-abbrev pub answers_from : FilterOptions → Filter → List Frame → List MaybeTimestamp
+abbrev pub answers_from : FilterOptions → Filter → List Frame → List (Option Timestamp)
 answers_from o φ [] = []
 answers_from o φ (f ∷ fs) = (flash_filter o φ f.stamp f.above).cut ∷ answers_from o (flash_filter o φ f.stamp f.above).filter fs
 
@@ -31,7 +33,7 @@ Chain d t (c ∷ cs) = ((t +ℤ pos d) ≤ℤ c) × Chain d c cs
 -- from an earlier start
 pub chain-down : (d : ℕ) {t u : ℤ} (cs : List ℤ) → t ≤ℤ u → Chain d u cs → Chain d t cs
 chain-down d [] h k = tt
-chain-down d {t} {u} (c ∷ cs) h k = (omega (whole, k.0, sum-read t (pos d), sum-read u (pos d)), k.1)
+chain-down d {t} {u} (c ∷ cs) h k = (omega (arith, ints, k.0), k.1)
 
 pub chain-keeps : (d : ℕ) (t : ℤ) (cs : List ℤ) → Chain d t cs → KeepsDistance d (t ∷ cs)
 chain-keeps d t [] k = tt
@@ -47,7 +49,7 @@ chain-distance d t cs k = keeps-tail d t cs (chain-keeps d t cs k)
 pub chain-from : (d : ℕ) (t : ℤ) (cs : List ℤ) → Chain d t cs → All (λ (c : ℤ). (t +ℤ pos d) ≤ℤ c) cs
 chain-from d t [] k = tt
 chain-from d t (c ∷ cs) k =
-    (k.0, chain-from d t cs (chain-down d cs (omega (whole, k.0, sum-read t (pos d))) k.1))
+    (k.0, chain-from d t cs (chain-down d cs (omega (arith, ints, k.0)) k.1))
 
 keeps-next : (d : ℕ) (c : ℤ) (cs : List ℤ) → KeepsDistance d (c ∷ cs) → Chain d c cs
 keeps-next d c [] k = tt
@@ -70,7 +72,7 @@ choice-rest (pick h) = skip h
 
 pub choice-length : {A : Type 0} {xs ys : List A} → Choice xs ys → length xs ≤ length ys
 choice-length none = zero-le
-choice-length (skip h) = omega (whole, choice-length h)
+choice-length (skip h) = omega (arith, choice-length h)
 choice-length (pick h) = suc-le-suc (choice-length h)
 
 -- what holds of the stamps of all holds of the first chosen

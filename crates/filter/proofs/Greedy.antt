@@ -1,4 +1,5 @@
 -- Scored frames in Suppress: the cuts are an allowed choice of them, and no allowed choice is longer. Assumes nothing.
+use Rattle.std.proofs.Common.{Some}
 use Prim.Native.Nat.{◌≤◌, zero-le, suc-le-suc}
 use mathlib.Core.Path.{◌≡◌, refl, sym, ap, ◌∙◌}
 use mathlib.Core.Bool.{Bool, true, false, ◌&&◌, false≢true}
@@ -7,8 +8,8 @@ use lib.IntN.{ℤ, pos, ◌+ℤ◌}
 use lib.ListN.{length}
 use lib.Signed.{◌≤ℤ◌}
 use Rattle.timestamp.specs.declared.Timestamp.{Timestamp}
-use Rattle.timestamp.specs.declared.MaybeTimestamp.TheVariants.{At}
-use Rattle.laws.proofs.Whole.{whole}
+use native.Mathlib.Omega.{arith}
+use Rattle.std.proofs.lemmas.Int.{ints}
 use Rattle.filter.specs.declared.FilterMode.TheVariants.{Suppress}
 use Rattle.filter.specs.declared.FilterOptions.{FilterOptions}
 use Rattle.filter.specs.declared.Filter.{Filter}
@@ -21,7 +22,7 @@ use Rattle.laws.proofs.Bools.{and-true}
 
 -- the filter that counts from t
 abbrev counting : Filter → Timestamp → Filter
-counting φ t = record { last_above = At t; merge_enabled = φ.merge_enabled; merge_triggered = φ.merge_triggered; merge_start = φ.merge_start }
+counting φ t = record { last_above = Some t; merge_enabled = φ.merge_enabled; merge_triggered = φ.merge_triggered; merge_start = φ.merge_start }
 
 abbrev Above : Frame → Type 0
 Above f = f.above ≡ true
@@ -53,7 +54,7 @@ module _ (o : FilterOptions) where
         choice = pick r.choice;
         are-cuts = ap (λ cs. f.stamp.micros ∷ cs) r.are-cuts;
         above = (h.0, r.above);
-        chain = (omega (whole, h.1), r.chain);
+        chain = (grind (arith, ints, h.1), r.chain);
       }
   pick-step φ t f fs false e ih =
       let r = ih t in
@@ -84,7 +85,7 @@ module _ (o : FilterOptions) where
     where
       hits : Above f → ((t.micros +ℤ pos o.min_duration) ≤ℤ f.stamp.micros) → hit t f ≡ true
       hits q r =
-          let m : min_length_met o t f.stamp ≡ true = omega whole in
+          let m : min_length_met o t f.stamp ≡ true = grind (arith, ints) in
           rw (q, m)
 
   module _ (mode : o.filter_mode ≡ Suppress) where

@@ -1,7 +1,7 @@
 -- THE THEOREM: the spacing theorem for scored frames, as `specs/Claim.antt` states it, holds of every options and every list of calls from a fresh state. Assumes nothing.
+use Rattle.std.proofs.Common.{Option}
 use mathlib.Core.Path.{◌≡◌, refl}
 use mathlib.Core.List.{List}
-use Rattle.timestamp.specs.declared.MaybeTimestamp.{MaybeTimestamp}
 use Rattle.filter.specs.declared.FilterMode.{FilterMode}
 use Rattle.filter.specs.declared.FilterMode.TheVariants.{Suppress, Merge}
 use Rattle.filter.specs.declared.FilterOptions.{FilterOptions}
@@ -13,6 +13,7 @@ use Rattle.filter.proofs.Frames.{cuts_from}
 use Rattle.filter.proofs.Greedy.{suppressed-keeps}
 use Rattle.filter.proofs.Distance.{merged_keeps}
 use Rattle.filter.proofs.Stretch.{Played, played, cuts_are, no-others, left_out}
+use Rattle.timestamp.specs.declared.Timestamp.{Timestamp}
 
 by_mode : (o : FilterOptions) (mode : FilterMode) → o.filter_mode ≡ mode → (fs : List Frame) → InMode mode o fs (cuts_from o fresh fs)
 by_mode o Suppress e fs = suppressed-keeps o e fs
@@ -22,7 +23,7 @@ by_mode o Merge e fs = merged_keeps o e fs
 pub filter-keeps : (o : FilterOptions) (fs : List Frame) → InMode o.filter_mode o fs (cuts_from o fresh fs)
 filter-keeps o fs = by_mode o o.filter_mode refl fs
 
-keeps : (o : FilterOptions) (t : Stretch MaybeTimestamp) → Played o t → StretchKeeps o t
+keeps : (o : FilterOptions) (t : Stretch (Option Timestamp)) → Played o t → StretchKeeps o t
 keeps o t p = rw (cuts_are o t p) (filter-keeps o (scored_frames t))
 
 pub theorem : (o : FilterOptions) (calls : List FilterCall) → FilterClaim o calls

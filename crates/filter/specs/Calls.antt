@@ -1,9 +1,7 @@
 -- A list of calls on one detector, as the filter sees them, and how a detector over the filter acts on them (RULES 7.1, 14.5). Each call of a
 -- content detector is one of these: a frame call that it accepts is a `frame` here, whatever the pixels were.
-use Rattle.std.specs.Prelude.{ℕ, Bool, true, false, ◌&&◌, List, [], ◌∷◌, eqb}
+use Rattle.std.specs.Prelude.{ℕ, Bool, true, false, ◌&&◌, List, [], ◌∷◌, eqb, None, Option}
 use Rattle.timestamp.specs.declared.Timestamp.{Timestamp}
-use Rattle.timestamp.specs.declared.MaybeTimestamp.{MaybeTimestamp}
-use Rattle.timestamp.specs.declared.MaybeTimestamp.TheVariants.{None}
 use Rattle.filter.specs.declared.FilterOptions.{FilterOptions}
 use Rattle.filter.specs.declared.Filter.{Filter}
 use Rattle.filter.specs.declared.FilterStep.{FilterStep}
@@ -30,7 +28,7 @@ pub record State : Type 0 where
 -- the state after a call, and the cut or none that it returns
 pub record Turn : Type 0 where
   pub state : State
-  pub cut : MaybeTimestamp
+  pub cut : Option Timestamp
 
 -- the fresh state, which a settings call returns: no frame yet, size 0 × 0, a fresh filter (RULES 8.2)
 abbrev pub start : State
@@ -61,10 +59,10 @@ pub data Answered (A : Type 0) : Type 0 where
   ◌brought◌ : FilterCall → A → Answered A
 
 -- each call gets the state that the last one returned (RULES 14.5)
-abbrev pub filter_run_from : FilterOptions → State → List FilterCall → List (Answered MaybeTimestamp)
+abbrev pub filter_run_from : FilterOptions → State → List FilterCall → List (Answered (Option Timestamp))
 filter_run_from o st [] = []
 filter_run_from o st (c ∷ cs) = (c brought (turn o st c).cut) ∷ filter_run_from o (turn o st c).state cs
 
 -- a list of calls, from a fresh state (RULES 14.5)
-abbrev pub filter_run : FilterOptions → List FilterCall → List (Answered MaybeTimestamp)
+abbrev pub filter_run : FilterOptions → List FilterCall → List (Answered (Option Timestamp))
 filter_run o calls = filter_run_from o start calls

@@ -1,14 +1,13 @@
 -- What holds of every list of calls, as the filter sees them: the spacing theorem in its two modes (RULES 14.6 to 14.11). Everything here is
 -- said of the calls and their answers alone, and nothing of the detector's state.
-use Rattle.std.specs.Prelude.{ℕ, ◌≤◌, ◌≡◌, Bool, true, false, ◌&&◌, List, [], ◌∷◌, ◌++◌, map, eqb, ℤ, pos, ◌+ℤ◌, length, ◌≤ℤ◌}
+use Rattle.std.specs.Prelude.{ℕ, ◌≤◌, ◌≡◌, Bool, true, false, ◌&&◌, List, [], ◌∷◌, ◌++◌, map, eqb, ℤ, pos, ◌+ℤ◌, length, ◌≤ℤ◌, None, Option, Some}
 use Rattle.laws.specs.Lists.{All, leave_out}
-use Rattle.timestamp.specs.declared.MaybeTimestamp.{MaybeTimestamp}
-use Rattle.timestamp.specs.declared.MaybeTimestamp.TheVariants.{None, At}
 use Rattle.filter.specs.declared.FilterMode.{FilterMode}
 use Rattle.filter.specs.declared.FilterMode.TheVariants.{Suppress, Merge}
 use Rattle.filter.specs.declared.FilterOptions.{FilterOptions}
 use Rattle.filter.specs.Flash.{virtual_seed}
 use Rattle.filter.specs.Calls.{Frame, FilterCall, refused, frame, clear, Answered, ◌brought◌, filter_run}
+use Rattle.timestamp.specs.declared.Timestamp.{Timestamp}
 
 -- ---- refused calls left out (RULES 14.6)
 
@@ -73,17 +72,17 @@ answers [] = []
 answers ((c brought a) ∷ xs) = a ∷ answers xs
 
 -- the cuts among these answers, in their order (RULES 14.8)
-abbrev pub cuts_in : List MaybeTimestamp → List ℤ
+abbrev pub cuts_in : List (Option Timestamp) → List ℤ
 cuts_in [] = []
 cuts_in (None ∷ rs) = cuts_in rs
-cuts_in (At t ∷ rs) = t.micros ∷ cuts_in rs
+cuts_in (Some t ∷ rs) = t.micros ∷ cuts_in rs
 
 -- the cuts of a stretch
-abbrev pub cuts : Stretch MaybeTimestamp → List ℤ
-cuts t = cuts_in (t.first.answer ∷ map (λ (x : Shot MaybeTimestamp). x.answer) t.scored)
+abbrev pub cuts : Stretch (Option Timestamp) → List ℤ
+cuts t = cuts_in (t.first.answer ∷ map (λ (x : Shot (Option Timestamp)). x.answer) t.scored)
 
 -- the cuts of all stretches, one stretch after another
-abbrev pub all_cuts : List (Stretch MaybeTimestamp) → List ℤ
+abbrev pub all_cuts : List (Stretch (Option Timestamp)) → List ℤ
 all_cuts [] = []
 all_cuts (t ∷ ts) = cuts t ++ all_cuts ts
 
@@ -146,13 +145,13 @@ InMode Suppress o fs cs = Suppressed o fs cs
 InMode Merge o fs cs = Merged o fs cs
 
 -- a stretch keeps the rule of the mode
-abbrev pub StretchKeeps : FilterOptions → Stretch MaybeTimestamp → Type 0
+abbrev pub StretchKeeps : FilterOptions → Stretch (Option Timestamp) → Type 0
 StretchKeeps o t = InMode o.filter_mode o (scored_frames t) (cuts t)
 
 -- the claim about calls and what they brought (RULES 14.10, 14.11)
-pub record StretchesHold (o : FilterOptions) (xs : List (Answered MaybeTimestamp)) : Type 0 where
+pub record StretchesHold (o : FilterOptions) (xs : List (Answered (Option Timestamp))) : Type 0 where
   -- the first frame of a stretch gives no cut
-  pub first-frames : All (λ (t : Stretch MaybeTimestamp). t.first.answer ≡ None) (stretches xs)
+  pub first-frames : All (λ (t : Stretch (Option Timestamp)). t.first.answer ≡ None) (stretches xs)
   -- each stretch keeps the rule of the mode
   pub each-stretch : All (StretchKeeps o) (stretches xs)
   -- every cut belongs to a stretch

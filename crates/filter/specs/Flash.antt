@@ -1,12 +1,8 @@
 -- The filter rule (RULES 7): which scored frames of a stretch are cuts, in the mode Suppress and in the mode Merge, which takes the branches
 -- of the Rust's `filter_merge`. A scored frame comes as its stamp and whether it is above, that is, its score at or over the threshold.
-use Rattle.std.specs.Prelude.{ℕ, Bool, false, cond, not, ◌&&◌, ◌||◌, leb, pos, ◌+ℤ◌}
+use Rattle.std.specs.Prelude.{ℕ, Bool, false, cond, not, ◌&&◌, ◌||◌, leb, pos, ◌+ℤ◌, None, Option, Some}
 use Rattle.std.specs.Int.Signed.{le_z}
 use Rattle.timestamp.specs.declared.Timestamp.{Timestamp}
-use Rattle.timestamp.specs.declared.MaybeTimestamp.{MaybeTimestamp}
-use Rattle.timestamp.specs.declared.MaybeTimestamp.TheVariants.{None, At}
-use Rattle.timestamp.specs.declared.Since.{Since}
-use Rattle.timestamp.specs.declared.Since.TheVariants.{Earlier, Micros}
 use Rattle.timestamp.specs.Stamps.{duration_since, saturating_sub}
 use Rattle.filter.specs.declared.FilterMode.{FilterMode}
 use Rattle.filter.specs.declared.FilterMode.TheVariants.{Suppress, Merge}
@@ -24,23 +20,23 @@ unfoldable pub virtual_seed : Timestamp → FilterOptions → Timestamp
 virtual_seed ts o = cond o.initial_cut (saturating_sub ts o.min_duration) ts
 
 -- what the distance is counted from at a frame of stamp ts: the filter's last stamp, or the seed if it has none (RULES 7.2)
-unfoldable pub seeded : FilterOptions → MaybeTimestamp → Timestamp → Timestamp
+unfoldable pub seeded : FilterOptions → Option Timestamp → Timestamp → Timestamp
 seeded o None ts = virtual_seed ts o
-seeded o (At t) ts = t
+seeded o (Some t) ts = t
 
 -- the stamp ts is at least the minimum past `last`: last + minimum ≤ ts in whole numbers, where the sum neither wraps nor stops (RULES 1.5)
 unfoldable pub min_length_met : FilterOptions → Timestamp → Timestamp → Bool
 min_length_met o last ts = le_z (last.micros +ℤ pos o.min_duration) ts.micros
 
 -- a cut at this stamp if the condition holds, otherwise none
-abbrev pub cut_if : Bool → Timestamp → MaybeTimestamp
-cut_if b ts = cond b (At ts) None
+abbrev pub cut_if : Bool → Timestamp → Option Timestamp
+cut_if b ts = cond b (Some ts) None
 
 -- the step with this cut or none after which the distance is counted from `last`; merging stays as it is
-abbrev pub step_to : Filter → Timestamp → MaybeTimestamp → FilterStep
+abbrev pub step_to : Filter → Timestamp → Option Timestamp → FilterStep
 step_to f last cut =
     record {
-      filter = record { last_above = At last; merge_enabled = f.merge_enabled; merge_triggered = f.merge_triggered; merge_start = f.merge_start };
+      filter = record { last_above = Some last; merge_enabled = f.merge_enabled; merge_triggered = f.merge_triggered; merge_start = f.merge_start };
       cut = cut;
     }
 
@@ -57,15 +53,15 @@ abbrev pub advanced : (last ts : Timestamp) (above : Bool) → Timestamp
 advanced last ts above = cond above ts last
 
 -- how many microseconds a stamp is past another: their difference, or 0 where the stamp is before the other one (RULES 1.2, 7.4)
-abbrev pub micros_or_zero : Since → ℕ
-micros_or_zero Earlier = 0
-micros_or_zero (Micros n) = n
+abbrev pub micros_or_zero : Option ℕ → ℕ
+micros_or_zero None = 0
+micros_or_zero (Some n) = n
 
 -- `num_merged`: how far the last stamp is past the merge's start; a last stamp before the start counts as 0 past it (RULES 7.4). Without a
 -- start it is 0 too, but a detector refuses such a state by 15 and does not come here (RULES 10.7).
-unfoldable pub num_merged : Timestamp → MaybeTimestamp → ℕ
+unfoldable pub num_merged : Timestamp → Option Timestamp → ℕ
 num_merged last None = 0
-num_merged last (At start) = micros_or_zero (duration_since last start)
+num_merged last (Some start) = micros_or_zero (duration_since last start)
 
 -- While a merge is going on, a frame that is not above, and met, ends it if the last stamp is at least the minimum past the merge's start.
 -- The cut is then the last stamp, that of an earlier frame. The start is kept as it was. Nothing else is a cut (RULES 7.4).
@@ -73,7 +69,7 @@ unfoldable pub merge_held : FilterOptions → Filter → (last : Timestamp) (abo
 merge_held o f last above met =
     let release : Bool = not above && met && leb o.min_duration (num_merged last f.merge_start) in
     record {
-      filter = record { last_above = At last; merge_enabled = f.merge_enabled; merge_triggered = not release; merge_start = f.merge_start };
+      filter = record { last_above = Some last; merge_enabled = f.merge_enabled; merge_triggered = not release; merge_start = f.merge_start };
       cut = cut_if release last;
     }
 
@@ -83,7 +79,7 @@ unfoldable pub merge_free : Filter → (last ts : Timestamp) (above met : Bool) 
 merge_free f last ts above met =
     let trigger : Bool = above && not met && f.merge_enabled in
     record {
-      filter = record { last_above = At last; merge_enabled = above && met || f.merge_enabled; merge_triggered = trigger; merge_start = cond trigger (At ts) f.merge_start };
+      filter = record { last_above = Some last; merge_enabled = above && met || f.merge_enabled; merge_triggered = trigger; merge_start = cond trigger (Some ts) f.merge_start };
       cut = cut_if (above && met) ts;
     }
 

@@ -1,7 +1,7 @@
 -- The checks of a frame, by the refusals 1 to 5 (RULES 2.4 to 2.6). A plane needs height × stride bytes, the padding of the last row
 -- included. A width or a height of 0 is accepted.
 use Rattle.std.specs.Prelude.{Bool, ◌||◌, [], ◌∷◌, ℕ, ◌*◌, ltb}
-use Rattle.frame.specs.Refusal.{first_that}
+use Rattle.refusal.specs.Refusal.{first_that}
 
 -- refusal 1: the width or the height is over 4,096
 abbrev pub too_large : ℕ → ℕ → Bool

@@ -1,4 +1,3 @@
-pub mod Refusals
 pub mod Filled
 pub mod Returned
 pub mod Numbers

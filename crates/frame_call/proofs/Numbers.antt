@@ -5,7 +5,7 @@ use Prim.Native.Nat.{ℕ, ◌+◌, ◌*◌, ◌<◌, max}
 use native.Mathlib.Omega.{arith}
 use lib.Dec.{eqb, ltb}
 use lib.ListN.{length}
-use Rattle.frame.specs.Refusal.{first_that}
+use Rattle.refusal.specs.Refusal.{first_that}
 use Rattle.frame.specs.Checks.{too_large, too_short, plane_refusal, luma_refusal, bgr_refusal, hsv_refusal}
 use Rattle.stream.specs.Stream.{memory_refusal}
 use Rattle.laws.specs.Lists.{All}

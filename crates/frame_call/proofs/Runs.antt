@@ -5,7 +5,9 @@ use mathlib.Core.List.{List, [], ◌∷◌}
 use Prim.Native.Nat.{ℕ}
 use lib.Dec.{eqb}
 use lib.ListN.{length}
-use borrow.Author.Tests.{le-ltb, eqb-true, not-true}
+use native.Mathlib.Decide.{ℕ_discrete}
+use native.Mathlib.Omega.{arith}
+use borrow.Author.Tests.{le-ltb, eqb-true, ne_eqb, not-true}
 use Rattle.timestamp.specs.declared.Timestamp.{Timestamp}
 use Rattle.frame.specs.Checks.{too_large}
 use Rattle.frame.proofs.Accepted.{Accepted, accepted-luma, accepted-bgr, accepted-hsv}
@@ -14,15 +16,13 @@ use Rattle.stream.specs.declared.Stream.{Stream}
 use Rattle.stream.specs.Stream.{next_stream}
 use Rattle.laws.specs.Lists.{All, leave_out}
 use Rattle.frame_call.specs.declared.PictureOptions.{PictureOptions}
-use Rattle.frame_call.specs.declared.Picture.{Picture}
-use Rattle.frame_call.specs.Call.{Memory, Call, luma, bgr, hsv, clear, frame_number, Outcome, accepted, pictured, answered_by, outcome_of}
+use Rattle.frame_call.specs.Call.{PictureAnswer, Memory, Call, luma, bgr, hsv, clear, call_refusal, frame_number, Outcome, accepted, pictured, answered_by, outcome_of}
 use Rattle.frame_call.specs.Run.{own_number, is_refused, MadeCall, run_from, RunClaim}
-use Rattle.frame_call.proofs.Refusals.{passed}
 use Rattle.frame_call.proofs.Numbers.{own_below}
 
 -- ---- the answer to a frame, accepted and refused
 
-module _ {A : Type 0} (s : Stream) (o : PictureOptions) (bad : Bool) (stepped : Picture → A) (refused : ℕ → A) (u w h : ℕ) (p : Planes) (m : Memory) where
+module _ {A : Type 0} (s : Stream) (o : PictureOptions) (bad : Bool) (stepped : PictureAnswer → A) (refused : ℕ → A) (u w h : ℕ) (p : Planes) (m : Memory) where
   pub if-accepted : eqb (frame_number bad u w h m) 0 ≡ true → answered_by stepped refused (pictured s o bad u w h p m).answer ≡ stepped (accepted s o w h p m.store).answer
   unfolding pictured accepted
   if-accepted e = rw e
@@ -30,6 +30,16 @@ module _ {A : Type 0} (s : Stream) (o : PictureOptions) (bad : Bool) (stepped : 
   pub if-refused : eqb (frame_number bad u w h m) 0 ≡ false → answered_by stepped refused (pictured s o bad u w h p m).answer ≡ refused (frame_number bad u w h m)
   unfolding pictured
   if-refused e = rw (e, e)
+
+-- a call that is not refused: its frame is not
+passed : (bad : Bool) (f m : ℕ) → call_refusal bad f m ≡ 0 → f ≡ 0
+unfolding call_refusal
+passed true f m e = absurd (omega arith)
+passed false f m e = by_zero (ℕ_discrete f 0)
+  where
+    by_zero : Dec (f ≡ 0) → f ≡ 0
+    by_zero (yes z) = z
+    by_zero (no z) = rw (ne_eqb f 0 z) at e
 
 -- a frame that passes its check has sides of at most 4,096
 abbrev Sides : (refusal width height : ℕ) → Type 0
@@ -41,15 +51,15 @@ small {w = w} {h = h} a = simp (le-ltb 4096 w a.wide, le-ltb 4096 h a.high)
 -- ---- a detector
 
 module _ {D A : Type 0} (stream_of : D → Stream) (settings : D → PictureOptions) (bad : D → Bool)
-    (stepped : D → Timestamp → Picture → A) (refused : D → ℕ → A) (cleared : D → A) (number : A → ℕ) (state_of : A → D) where
+    (stepped : D → Timestamp → PictureAnswer → A) (refused : D → ℕ → A) (cleared : D → A) (number : A → ℕ) (state_of : A → D) where
   abbrev called : D → Call → Outcome A
   called d c = outcome_of (stream_of d) (settings d) (bad d) (stepped d) (refused d) (cleared d) c
 
   -- Good is what holds of every state of a run; this is what a detector shows of it, and of its answers
   pub record DetectorLaws (Good : D → Type 0) : Type 0 where
     pub not-bad : (d : D) → Good d → bad d ≡ false
-    pub step-number : (d : D) (ts : Timestamp) (p : Picture) → number (stepped d ts p) ≡ 0
-    pub step_stays : (d : D) (ts : Timestamp) (p : Picture) → too_large p.stream.width p.stream.height ≡ false → Good d → Good (state_of (stepped d ts p))
+    pub step-number : (d : D) (ts : Timestamp) (p : PictureAnswer) → number (stepped d ts p) ≡ 0
+    pub step_stays : (d : D) (ts : Timestamp) (p : PictureAnswer) → too_large p.stream.width p.stream.height ≡ false → Good d → Good (state_of (stepped d ts p))
     pub refused-number : (d : D) (n : ℕ) → number (refused d n) ≡ n
     pub refused-state : (d : D) (n : ℕ) → state_of (refused d n) ≡ d
     pub clear-number : (d : D) → Good d → number (cleared d) ≡ 0
@@ -80,7 +90,7 @@ module _ {D A : Type 0} (stream_of : D → Stream) (settings : D → PictureOpti
       frame-stays sides = by_zero (eqb (frame_number (bad d) u w h m) 0) refl
         where
           taken : eqb (frame_number (bad d) u w h m) 0 ≡ true → Good (state_of (stepped d ts (accepted (stream_of d) (settings d) w h p m.store).answer))
-          taken e = k.step_stays d ts _ (sides (passed (bad d) _ _ (eqb-true _ 0 e)).0) g
+          taken e = k.step_stays d ts _ (sides (passed (bad d) _ _ (eqb-true _ 0 e))) g
 
           by_zero : (b : Bool) → eqb (frame_number (bad d) u w h m) 0 ≡ b → Good (state_of answer)
           by_zero true e = rw (if-accepted (stream_of d) (settings d) (bad d) (stepped d ts) (refused d) u w h p m e) (taken e)

@@ -12,8 +12,7 @@ use Rattle.stream.specs.declared.Stream.{Stream}
 use Rattle.stream.specs.declared.Sums.{Sums}
 use Rattle.stream.specs.Stream.{no_sums, is_scored, next_stream}
 use Rattle.frame_call.specs.declared.PictureOptions.{PictureOptions}
-use Rattle.frame_call.specs.declared.Picture.{Picture}
-use Rattle.frame_call.specs.Call.{Memory, Call, luma, bgr, hsv, clear, frame_number, Outcome, sums_of, accepted, pictured, answered_by, outcome_of}
+use Rattle.frame_call.specs.Call.{PictureAnswer, Memory, Call, luma, bgr, hsv, clear, frame_number, Outcome, sums_of, accepted, pictured, answered_by, outcome_of}
 use Rattle.frame_call.specs.Run.{run_from}
 use Rattle.frame_call.specs.Earlier.{Ongoing, none_yet, of_size, ongoing_after, goes_on, has_earlier, pixels_of, SumsAt, SumsHold}
 use Rattle.frame_call.proofs.Runs.{DetectorLaws, if-accepted, if-refused, stays}
@@ -40,14 +39,14 @@ scored-is s none_yet w h f = rw f (and-with-false (eqb s.width w) (eqb s.height 
 scored-is s (of_size v g) w h f = rw (f.0, f.1.0, f.1.1) (and-with-true (eqb v w) (eqb g h))
 
 module _ {D A : Type 0} (stream_of : D → Stream) (settings : D → PictureOptions) (bad : D → Bool)
-    (stepped : D → Timestamp → Picture → A) (refused : D → ℕ → A) (cleared : D → A) (number : A → ℕ) (state_of : A → D) (sums : A → Sums) where
+    (stepped : D → Timestamp → PictureAnswer → A) (refused : D → ℕ → A) (cleared : D → A) (number : A → ℕ) (state_of : A → D) (sums : A → Sums) where
   abbrev called : D → Call → Outcome A
   called d c = outcome_of (stream_of d) (settings d) (bad d) (stepped d) (refused d) (cleared d) c
 
   -- what a detector shows of its answers' sums, and of the stream after a call
   pub record SumsLaws (Good : D → Type 0) : Type 0 where
-    pub step-stream : (d : D) (ts : Timestamp) (p : Picture) → stream_of (state_of (stepped d ts p)) ≡ p.stream
-    pub step-sums : (d : D) (ts : Timestamp) (p : Picture) → sums (stepped d ts p) ≡ p.sums
+    pub step-stream : (d : D) (ts : Timestamp) (p : PictureAnswer) → stream_of (state_of (stepped d ts p)) ≡ p.stream
+    pub step-sums : (d : D) (ts : Timestamp) (p : PictureAnswer) → sums (stepped d ts p) ≡ p.sums
     pub refused-sums : (d : D) (n : ℕ) → sums (refused d n) ≡ no_sums
     pub clear-sums : (d : D) → sums (cleared d) ≡ no_sums
     pub clear-stream : (d : D) → Good d → (stream_of (state_of (cleared d))).has_previous ≡ false
@@ -57,7 +56,7 @@ module _ {D A : Type 0} (stream_of : D → Stream) (settings : D → PictureOpti
       abbrev answer : A
       answer = answered_by (stepped d ts) (refused d) (pictured (stream_of d) (settings d) (bad d) u w h p m).answer
 
-      abbrev brought : Picture
+      abbrev brought : PictureAnswer
       brought = (accepted (stream_of d) (settings d) w h p m.store).answer
 
       same_number : eqb (frame_number (bad d) u w h m) 0 ≡ eqb (frame_number false u w h m) 0

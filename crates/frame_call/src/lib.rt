@@ -1,108 +1,78 @@
 // What a frame is to either detector, the same for both: refused by the first number that applies (RULES 10.5), or its planes, the sums of
 // their differences with the last frame's, the stream after it with its score, and the store after it (RULES 8.4, 12.3). A detector adds
 // its step.
+// Kept, point 5: a frame call takes plain parameters, and frame records come after it (RULES 16.1); lent memory goes as three slices, as C lends it
+// (RULES 12.1). Stream, settings and whether the state is bad come from one caller, which would make a struct of them for each call.
 #![tactic(auto)]
 
-ghost use Rattle.std.specs.Prelude.{◌≡◌, ◌+◌, ◌*◌, ◌≤◌, length};
-ghost use Rattle.stream.specs.Stream.{no_sums, memory_refusal};
+ghost use Rattle.std.specs.Prelude.{◌≡◌, ℕ, List, ◌*◌, ◌≤◌, length, OnOk};
+ghost use Rattle.std.specs.Fn.{FnOnceTakesAtMut, FnOnceReturnsAtMut};
+ghost use Rattle.refusal.specs.Refusal.{number_in};
 ghost use Rattle.frame.specs.Checks.{luma_refusal, bgr_refusal, hsv_refusal};
-ghost use Rattle.scoring.specs.Planes.{luma_frame, bgr_frame, hsv_frame, planes_in};
-ghost use Rattle.frame_call.specs.Call.{memory, call_refusal, accepted, pictured, Called};
+ghost use Rattle.scoring.specs.Planes.{luma_frame, bgr_frame, hsv_frame, Planes, joined};
+ghost use Rattle.frame_call.specs.Call.{memory, pictured, picture_in, Called, Sized};
 
-use score::{Components, KernelSize};
+use refusal::Refusal;
+use score::Components;
 use stream::{Stream, Sums};
 
 // The settings that a frame's picture is scored by.
-#[derive(Clone, Copy)]
+#[derive(Clone, Copy, Debug, PartialEq)]
 pub struct PictureOptions {
     pub weights: Components,
-    pub kernel_size: KernelSize,
+    pub kernel_size: Option<u32>,
 }
 
-// The result of a frame, for either detector: a refusal's number or 0, the stream after it (refused: as it was) and the sums of its
-// differences (refused: all 0).
-#[derive(Clone, Copy)]
+// What an accepted frame is, for either detector: the stream after it and the sums of its differences.
+#[derive(Clone, Copy, Debug, PartialEq)]
 pub struct Picture {
-    pub number: u32,
     pub stream: Stream,
     pub sums: Sums,
 }
 
-// The number of a frame call's refusal, or 0, by that of the frame.
-fn call_refusal(
-    bad: bool,
-    frame: u32,
-    store: usize,
-    scratch: usize,
-    magnitudes: usize,
-    width: u32,
-    height: u32,
-) -> u32
-    requires { frame ≡ 0 → (width ≤ 4096) × (height ≤ 4096) }
-    ensures { result ≡ call_refusal bad frame (memory_refusal store scratch magnitudes width height) }
-{
-    if bad {
-        return 15;
-    }
-    if 0 < frame {
-        return frame;
-    }
-    stream::memory_refusal(store, scratch, magnitudes, width, height)
-}
-
-// A refused frame.
-fn refuse(s: Stream, number: u32) -> Picture
-    ensures { result ≡ record { number = number; stream = s; sums = no_sums } }
-{
-    let none = stream::no_sums();
-    Picture {
-        number: number,
-        stream: s,
-        sums: none,
-    }
-}
-
-// An accepted frame, once its planes are at the start of the scratch.
-fn accept(
+// A frame of any kind, by its check: `fill` writes its planes at the start of the scratch.
+#[tactic(auto, using(std::proofs::lemmas::Result::err_from_is_err_and, refusal::proofs::Numbers::positive), unfolding(crate::specs::Call::pictured, crate::specs::Call::call_refusal, stream::specs::Stream::memory_refusal))]
+fn process<F: FnOnce(&mut [u8])>(
     s: Stream,
     o: PictureOptions,
+    bad: bool,
+    frame: Result<(), Refusal>,
+    width: u32,
+    height: u32,
     store: &mut [u8],
     scratch: &mut [u8],
     magnitudes: &mut [i32],
-    width: u32,
-    height: u32,
-) -> Picture
-    requires width_bound { (width ≤ 4096) × (height ≤ 4096) }
-    requires height_in_bounds { width * height + (width * height + (width * height + width * height)) ≤ length store.old }
-    requires height_in_bounds_2 { width * height + (width * height + (width * height + width * height)) ≤ length scratch.old }
-    requires height_in_bounds_3 { width * height ≤ length magnitudes.old }
-    ensures value { result ≡ (accepted s o width height (planes_in (width * height) scratch.old) store.old).answer }
-    ensures store_after { store.new ≡ (accepted s o width height (planes_in (width * height) scratch.old) store.old).store }
+    fill: F,
+) -> Result<Picture, Refusal>
+    requires sides { OnOk frame ((width ≤ 4096) × (height ≤ 4096)) }
+    requires callable { OnOk frame ((x : List ℕ) → length x ≡ 3 * (width * height) → FnOnceTakesAtMut F.FnOnce fill x) }
+    ensures { (p : Planes) → Sized (width * height) p → ((x y : List ℕ) → FnOnceReturnsAtMut F.FnOnce fill x tt y → y ≡ joined p) → Called (pictured s o bad (number_in frame) width height p (memory store.old scratch.old magnitudes.old)) (picture_in s result) (picture_in s result).number (memory store.old scratch.old magnitudes.old) (memory store.new scratch.new magnitudes.new) }
 {
-    let weights = o.weights;
-    let size = o.kernel_size;
-    let edges = score::edges_enabled(weights);
-    let k = scoring::kernel(size, width, height);
-    let scored = stream::is_scored(s, width, height);
+    if bad {
+        return Err(Refusal::BadState);
+    }
+    frame?;
+    stream::check_memory(store.len(), scratch.len(), magnitudes.len(), width, height)?;
+    let e = 3 * (width as usize * height as usize);
+    fill(&mut scratch[..e]);
     let sums = scoring::frame_sums(
         store,
         scratch,
         magnitudes,
         width as usize,
         height as usize,
-        edges,
-        k,
-        scored,
+        score::edges_enabled(o.weights),
+        scoring::kernel(o.kernel_size, width, height),
+        stream::is_scored(s, width, height),
     );
-    let after = stream::next_stream(s, width, height, weights, sums);
-    Picture {
-        number: 0,
-        stream: after,
-        sums: sums,
-    }
+    Ok(Picture {
+        stream: stream::next_stream(s, width, height, o.weights, sums),
+        sums,
+    })
 }
 
 // A luma frame.
+#[tactic(auto, using(crate::proofs::Filled::luma_sized))]
 pub fn process_luma(
     s: Stream,
     o: PictureOptions,
@@ -114,30 +84,28 @@ pub fn process_luma(
     store: &mut [u8],
     scratch: &mut [u8],
     magnitudes: &mut [i32],
-) -> Picture
-    ensures { Called (pictured s o bad (luma_refusal (length plane.now) width height stride) width height (luma_frame plane.now width height stride) (memory store.old scratch.old magnitudes.old)) result result.number (memory store.old scratch.old magnitudes.old) (memory store.new scratch.new magnitudes.new) }
+) -> Result<Picture, Refusal>
+    ensures { Called (pictured s o bad (luma_refusal (length plane.now) width height stride) width height (luma_frame plane.now width height stride) (memory store.old scratch.old magnitudes.old)) (picture_in s result) (picture_in s result).number (memory store.old scratch.old magnitudes.old) (memory store.new scratch.new magnitudes.new) }
 {
-    let frame = frame::luma_refusal(plane.len(), width, height, stride);
-    let luma_number = call_refusal(
-        bad,
-        frame,
-        store.len(),
-        scratch.len(),
-        magnitudes.len(),
-        width,
-        height,
-    );
-    if 0 < luma_number {
-        return refuse(s, luma_number);
-    }
+    let frame = frame::check_luma(plane, width, height, stride);
     let w = width as usize;
     let h = height as usize;
-    let e = 3 * (w * h);
-    scoring::fill_luma(&mut scratch[0..e], plane, w, h, stride as usize);
-    accept(s, o, store, scratch, magnitudes, width, height)
+    process(
+        s,
+        o,
+        bad,
+        frame,
+        width,
+        height,
+        store,
+        scratch,
+        magnitudes,
+        |current| scoring::fill_luma(current, plane, w, h, stride as usize),
+    )
 }
 
 // A BGR frame.
+#[tactic(auto, using(crate::proofs::Filled::bgr_sized))]
 pub fn process_bgr(
     s: Stream,
     o: PictureOptions,
@@ -149,30 +117,28 @@ pub fn process_bgr(
     store: &mut [u8],
     scratch: &mut [u8],
     magnitudes: &mut [i32],
-) -> Picture
-    ensures { Called (pictured s o bad (bgr_refusal (length pixels.now) width height stride) width height (bgr_frame pixels.now width height stride) (memory store.old scratch.old magnitudes.old)) result result.number (memory store.old scratch.old magnitudes.old) (memory store.new scratch.new magnitudes.new) }
+) -> Result<Picture, Refusal>
+    ensures { Called (pictured s o bad (bgr_refusal (length pixels.now) width height stride) width height (bgr_frame pixels.now width height stride) (memory store.old scratch.old magnitudes.old)) (picture_in s result) (picture_in s result).number (memory store.old scratch.old magnitudes.old) (memory store.new scratch.new magnitudes.new) }
 {
-    let frame = frame::bgr_refusal(pixels.len(), width, height, stride);
-    let bgr_number = call_refusal(
-        bad,
-        frame,
-        store.len(),
-        scratch.len(),
-        magnitudes.len(),
-        width,
-        height,
-    );
-    if 0 < bgr_number {
-        return refuse(s, bgr_number);
-    }
+    let frame = frame::check_bgr(pixels, width, height, stride);
     let w = width as usize;
     let h = height as usize;
-    let e = 3 * (w * h);
-    scoring::fill_bgr(&mut scratch[0..e], pixels, w, h, stride as usize);
-    accept(s, o, store, scratch, magnitudes, width, height)
+    process(
+        s,
+        o,
+        bad,
+        frame,
+        width,
+        height,
+        store,
+        scratch,
+        magnitudes,
+        |current| scoring::fill_bgr(current, pixels, w, h, stride as usize),
+    )
 }
 
 // An HSV frame.
+#[tactic(auto, using(crate::proofs::Filled::hsv_sized))]
 pub fn process_hsv(
     s: Stream,
     o: PictureOptions,
@@ -186,40 +152,22 @@ pub fn process_hsv(
     store: &mut [u8],
     scratch: &mut [u8],
     magnitudes: &mut [i32],
-) -> Picture
-    ensures { Called (pictured s o bad (hsv_refusal (length hue.now) (length saturation.now) (length value.now) width height stride) width height (hsv_frame hue.now saturation.now value.now width height stride) (memory store.old scratch.old magnitudes.old)) result result.number (memory store.old scratch.old magnitudes.old) (memory store.new scratch.new magnitudes.new) }
+) -> Result<Picture, Refusal>
+    ensures { Called (pictured s o bad (hsv_refusal (length hue.now) (length saturation.now) (length value.now) width height stride) width height (hsv_frame hue.now saturation.now value.now width height stride) (memory store.old scratch.old magnitudes.old)) (picture_in s result) (picture_in s result).number (memory store.old scratch.old magnitudes.old) (memory store.new scratch.new magnitudes.new) }
 {
-    let frame = frame::hsv_refusal(
-        hue.len(),
-        saturation.len(),
-        value.len(),
-        width,
-        height,
-        stride,
-    );
-    let hsv_number = call_refusal(
-        bad,
-        frame,
-        store.len(),
-        scratch.len(),
-        magnitudes.len(),
-        width,
-        height,
-    );
-    if 0 < hsv_number {
-        return refuse(s, hsv_number);
-    }
+    let frame = frame::check_hsv(hue, saturation, value, width, height, stride);
     let w = width as usize;
     let h = height as usize;
-    let e = 3 * (w * h);
-    scoring::fill_hsv(
-        &mut scratch[0..e],
-        hue,
-        saturation,
-        value,
-        w,
-        h,
-        stride as usize,
-    );
-    accept(s, o, store, scratch, magnitudes, width, height)
+    process(
+        s,
+        o,
+        bad,
+        frame,
+        width,
+        height,
+        store,
+        scratch,
+        magnitudes,
+        |current| scoring::fill_hsv(current, hue, saturation, value, w, h, stride as usize),
+    )
 }

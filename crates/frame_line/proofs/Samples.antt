@@ -3,6 +3,7 @@ use mathlib.Core.Path.{◌≡◌, refl}
 use mathlib.Core.Bool.{true, false}
 use mathlib.Core.List.{List, [], ◌∷◌, ◌++◌, map}
 use Prim.Native.Nat.{ℕ, zero, suc}
+use Rattle.std.proofs.Common.{Option, Some, None}
 use lib.IntN.{ℤ, pos, negsuc}
 use lib.ListN.{replicate}
 use Rattle.decimal.specs.Parts.{parted}
@@ -59,8 +60,8 @@ others =
     [] ∷
     []
 
-abbrev frame : ℤ → ℕ → ℕ → FrameLine
-frame t w h = record { is_frame = true; stamp = record { micros = t }; width = w; height = h }
+abbrev frame : ℤ → ℕ → ℕ → Option FrameLine
+frame t w h = Some (record { stamp = record { micros = t }; width = w; height = h })
 
 are-frames : map line_of frames ≡ frame (pos 0) 1 1 ∷ frame (pos 7) 1 1 ∷ frame (pos 0) 5000 0 ∷ frame (pos 0) 0 0 ∷ frame (negsuc 9223372036854775807) 0 0 ∷ frame (pos 9223372036854775807) 0 0 ∷ frame (pos 0) 4294967295 0 ∷ []
 unfolding parted all_digits is_number number_from is_up_to is_stamp stamp_of all_values is_frame_of is_frame_line frame_of luma_of line_of
@@ -70,7 +71,7 @@ their-values : map (λ line. luma_of (fields line)) frames ≡ (200 ∷ []) ∷ 
 unfolding parted all_digits is_number number_from is_up_to is_stamp stamp_of all_values is_frame_of is_frame_line frame_of luma_of line_of
 their-values = refl
 
-are-none : map is_frame_line others ≡ replicate 13 false
+are-none : map line_of others ≡ replicate 13 None
 unfolding parted all_digits is_number number_from is_up_to is_stamp stamp_of all_values is_frame_of is_frame_line frame_of luma_of line_of
 are-none = refl
 

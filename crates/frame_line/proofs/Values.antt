@@ -7,69 +7,57 @@ use native.Mathlib.Numerals.{add-one}
 use native.Mathlib.Omega.{arith}
 use borrow.Author.Tests.{eq-eqb, ne_eqb}
 use lib.Dec.{eqb}
-use lib.ListN.{length, take, set, length-set}
+use lib.ListN.{length, take, set}
 use lib.Seq.{take-suc-set}
-use Rattle.decimal.specs.Reading.{is_up_to, number}
-use Rattle.frame_line.specs.declared.Field.{Field}
+use Rattle.std.proofs.lemmas.List.{take-append-le}
+use Rattle.std.proofs.Common.{Some, None}
+use Rattle.decimal.specs.Reading.{number, number_read}
+use Rattle.decimal.proofs.Numbers.{number-some, number_none}
 use Rattle.frame_line.specs.Line.{all_values}
-use Rattle.frame_line.specs.Steps.{fields_after}
-use Rattle.frame_line.proofs.Walk.{Took, starts_up_to, after-some, after_none}
 
 -- vs are exactly n values
 abbrev pub are_values : ℕ → List (List ℕ) → Bool
 are_values n vs = eqb (length vs) n && all_values vs
 
--- what is known after i values of vs: the last of their fields ends at e, and luma, k bytes long, begins with them
-pub record Taken (line : List ℕ) (vs : List (List ℕ)) (k : ℕ) (luma : List ℕ) (e i : ℕ) : Type 0 where
-  pub size : length luma ≡ k
-  pub within : e ≤ length line
-  pub count : length vs ≡ i + length (fields_after line e)
-  pub values : all_values vs ≡ all_values (fields_after line e)
-  pub same : map number vs ≡ take i luma ++ map number (fields_after line e)
+-- what is known after i values of vs: luma begins with them, and rest are left
+pub record Taken (vs : List (List ℕ)) (luma : List ℕ) (rest : List (List ℕ)) (i : ℕ) : Type 0 where
+  pub count : length vs ≡ i + length rest
+  pub values : all_values vs ≡ all_values rest
+  pub same : map number vs ≡ take i luma ++ map number rest
 
-pub taken_none : (line luma : List ℕ) (e : ℕ) → e ≤ length line → Taken line (fields_after line e) (length luma) luma e 0
-taken_none line luma e within = record { size = refl; within = within; count = omega arith; values = refl; same = refl }
+pub taken_none : (vs : List (List ℕ)) (luma : List ℕ) → Taken vs luma vs 0
+taken_none vs luma = record { count = omega arith; values = refl; same = refl }
 
-pub taken_more : (line : List ℕ) (vs : List (List ℕ)) (k : ℕ) (luma : List ℕ) (e i : ℕ) (n : Field) → Taken line vs k luma e i → i < k → Took 255 line e n
-    → Taken line vs k (set luma i n.value) n.«end» (i + 1)
-unfolding all_values
-taken_more line vs k luma e i n T h t =
-    let rest = fields_after line n.«end» in
-    record {
-      size = length-set luma i n.value ∙ T.size;
-      within = t.within;
-      count = T.count ∙ rw t.splits (omega arith);
-      values = T.values ∙ rw (t.splits, t.is);
-      same =
-          T.same
-          ∙ rw (t.splits, add-one i, take-suc-set luma i n.value (omega (arith, T.size)), append_assoc (take i luma) (n.value ∷ []) (map number rest), t.value);
-    }
+module _ (vs : List (List ℕ)) (luma : List ℕ) (i : ℕ) where
+  module _ (v : List ℕ) (rest left : List (List ℕ)) (T : Taken vs luma left i) (next : left ≡ v ∷ rest) where
+    pub taken_more : (n : ℕ) → number_read 255 v ≡ Some n → i < length luma → Taken vs (set luma i n) rest (i + 1)
+    unfolding all_values
+    taken_more n e h =
+        let s = number-some 255 n v e in
+        record {
+          count = T.count ∙ rw next (omega arith);
+          values = T.values ∙ rw (next, s.0);
+          same = T.same ∙ rw (next, add-one i, take-suc-set luma i n h, append_assoc (take i luma) (n ∷ []) (map number rest), s.1);
+        }
 
-bad : (f : List ℕ) (fs : List (List ℕ)) → is_up_to 255 f ≡ false → all_values (f ∷ fs) ≡ false
-unfolding all_values
-bad f fs h = rw h
+    -- no value comes next, or one after the last
+    pub taken_bad : (n : ℕ) → number_read 255 v ≡ None → are_values n vs ≡ false
+    unfolding all_values
+    taken_bad n e = rw (T.values, next, number_none 255 v e) (and-false (eqb (length vs) n))
 
--- no next value: too few, or one that is none
-pub taken-stops : (line : List ℕ) (vs : List (List ℕ)) (k : ℕ) (luma : List ℕ) (e i n : ℕ) → Taken line vs k luma e i → i < n → starts_up_to 255 (fields_after line e) ≡ false → false ≡ are_values n vs
-taken-stops line vs k luma e i n T h stop = by-rest (fields_after line e) T.count T.values stop
-  where
-    by-rest : (rest : List (List ℕ)) → length vs ≡ i + length rest → all_values vs ≡ all_values rest → starts_up_to 255 rest ≡ false → false ≡ are_values n vs
-    by-rest [] count values stop = rw (ne_eqb (length vs) n (λ q. omega (arith, q)))
-    by-rest (f ∷ fs) count values stop = rw (values, bad f fs stop, and-false (eqb (length vs) n))
+    pub taken-long : (n : ℕ) → n ≤ i → are_values n vs ≡ false
+    taken-long n h = let more = T.count ∙ ap (λ (l : List (List ℕ)). i + length l) next in rw (ne_eqb (length vs) n (λ q. omega (arith, q, more)))
 
--- a value after the last
-pub taken-long : (line : List ℕ) (vs : List (List ℕ)) (k : ℕ) (luma : List ℕ) (e i n : ℕ) → Taken line vs k luma e i → n ≤ i → e < length line → false ≡ are_values n vs
-taken-long line vs k luma e i n T h more =
-    let count = ap length (after-some line e more) in
-    rw (ne_eqb (length vs) n (λ q. omega (arith, q, T.count, count)))
+  module _ (left : List (List ℕ)) (T : Taken vs luma left i) (none : left ≡ []) where
+    pub taken-short : (n : ℕ) → i < n → are_values n vs ≡ false
+    taken-short n h = let end = T.count ∙ ap (λ (l : List (List ℕ)). i + length l) none in rw (ne_eqb (length vs) n (λ q. omega (arith, q, end)))
 
--- all are taken
-pub taken-all : (line : List ℕ) (vs : List (List ℕ)) (k : ℕ) (luma : List ℕ) (e i n : ℕ) → Taken line vs k luma e i → n ≡ i → length line ≤ e → true ≡ are_values n vs
-unfolding all_values
-taken-all line vs k luma e i n T h last =
-    let none = after_none line e last in
-    let values : all_values vs ≡ true = T.values ∙ rw none in
-    rw (values, eq-eqb (length vs) n (omega (arith, T.count, ap length none)))
+    -- all are taken
+    pub taken-all : (n : ℕ) → n ≡ i → are_values n vs ≡ true
+    unfolding all_values
+    taken-all n last =
+        let end = T.count ∙ ap (λ (l : List (List ℕ)). i + length l) none in
+        rw (eq-eqb (length vs) n (omega (arith, end)), T.values, none)
 
-pub taken-luma : (line : List ℕ) (vs : List (List ℕ)) (k : ℕ) (luma : List ℕ) (e i n : ℕ) → Taken line vs k luma e i → n ≡ i → length line ≤ e → take n luma ≡ map number vs
-taken-luma line vs k luma e i n T h last = rw h (sym (T.same ∙ rw (after_none line e last) (append-nil (take i luma))))
+    pub taken-luma : (n : ℕ) (after : List ℕ) → n ≡ i → i ≤ length luma → take n (luma ++ after) ≡ map number vs
+    taken-luma n after last h = rw last (take-append-le i luma after h ∙ sym (T.same ∙ rw none (append-nil (take i luma))))

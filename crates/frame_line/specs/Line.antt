@@ -1,5 +1,5 @@
 -- Lines of the session program (RULES 11.2, 11.3): `stamp,width,height` and then the luma values, in decimal, separated by commas.
-use Rattle.std.specs.Prelude.{Bool, true, false, cond, ◌&&◌, List, [], ◌∷◌, map, ℕ, ◌*◌, eqb, leb, pos, length}
+use Rattle.std.specs.Prelude.{Bool, true, false, cond, ◌&&◌, List, [], ◌∷◌, map, ℕ, ◌*◌, eqb, leb, length, Option, Some, None}
 use Rattle.decimal.specs.Parts.{parted}
 use Rattle.decimal.specs.Reading.{is_up_to, is_stamp, number, stamp_of}
 use Rattle.frame_line.specs.declared.FrameLine.{FrameLine}
@@ -31,16 +31,12 @@ fields line = parted 44 line
 unfoldable pub is_frame_line : List ℕ → Bool
 is_frame_line line = leb (length line) 8192 && is_frame_of (fields line)
 
--- what a line says that is not a valid frame line: no frame
-abbrev pub no_frame : FrameLine
-no_frame = record { is_frame = false; stamp = record { micros = pos 0 }; width = 0; height = 0 }
-
 -- the stamp and the sides that the fields of a frame line say (RULES 11.2)
-unfoldable pub frame_of : List (List ℕ) → FrameLine
-frame_of [] = no_frame
-frame_of (s ∷ []) = no_frame
-frame_of (s ∷ w ∷ []) = no_frame
-frame_of (s ∷ w ∷ h ∷ vs) = record { is_frame = true; stamp = record { micros = stamp_of s }; width = number w; height = number h }
+unfoldable pub frame_of : List (List ℕ) → Option FrameLine
+frame_of [] = None
+frame_of (s ∷ []) = None
+frame_of (s ∷ w ∷ []) = None
+frame_of (s ∷ w ∷ h ∷ vs) = Some (record { stamp = record { micros = stamp_of s }; width = number w; height = number h })
 
 -- the luma values that the fields of a frame line say, row by row (RULES 11.2)
 unfoldable pub luma_of : List (List ℕ) → List ℕ
@@ -50,5 +46,5 @@ luma_of (s ∷ w ∷ []) = []
 luma_of (s ∷ w ∷ h ∷ vs) = map number vs
 
 -- what a line says: its frame, or none where it is not a valid frame line (RULES 11.2, 11.3)
-unfoldable pub line_of : List ℕ → FrameLine
-line_of line = cond (is_frame_line line) (frame_of (fields line)) no_frame
+unfoldable pub line_of : List ℕ → Option FrameLine
+line_of line = cond (is_frame_line line) (frame_of (fields line)) None

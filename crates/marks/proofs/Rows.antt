@@ -1,22 +1,23 @@
 -- The rows of the table: the texts that a row is made of, how long rows are, and the rows one after the other.
-use mathlib.Core.Path.{◌≡◌, refl}
+use mathlib.Core.Path.{◌≡◌, refl, ◌∙◌}
 use mathlib.Core.Bool.{Bool, true, false, cond}
-use mathlib.Core.List.{List, [], ◌∷◌, ◌++◌, append_assoc}
+use mathlib.Core.List.{[], ◌∷◌, ◌++◌, append_assoc}
 use Prim.Native.Nat.{ℕ, zero, suc, ◌+◌, ◌-◌, ◌*◌, ◌/◌, ◌≤◌, ◌<◌}
 use native.Mathlib.Numerals.{add-one}
 use native.Mathlib.Omega.{arith}
 use lib.Dec.{eqb}
-use lib.ListN.{length, drop, length-append}
-use Rattle.decimal.specs.Placed.{placed}
+use lib.ListN.{length, length-append}
+use Rattle.decimal.specs.Placed.{placed, Wrote}
 use Rattle.decimal.specs.Writing.{decimal}
-use Rattle.decimal.proofs.Lengths.{decimal-length, digits-short}
-use Rattle.decimal.proofs.Writes.{Wrote, wrote-next}
+use Rattle.decimal.proofs.Lengths.{decimal_length, digits-short}
+use Rattle.decimal.specs.declared.Writer.{Writer}
+use Rattle.decimal.proofs.Writes.{wrote_next}
 use Rattle.canny_marks.specs.Marks.{low_mark, high_mark}
 use Rattle.marks.specs.Text.{table_header, row_text, rows_text, table_text}
 
 -- a number and the byte after it
 pub cell-length : (n end : ℕ) → length (decimal n ++ (end ∷ [])) ≤ 21
-cell-length n end = omega (arith, length-append (decimal n) (end ∷ []), decimal-length n)
+cell-length n end = omega (arith, length-append (decimal n) (end ∷ []), decimal_length n)
 
 -- of a number below 1,000: three digits at most
 short : (n end : ℕ) → n < 1000 → length (decimal n ++ (end ∷ [])) ≤ 4
@@ -52,23 +53,21 @@ pub rows_next : (m : ℕ) → rows_text (m + 1) ≡ rows_text m ++ row_text m
 unfolding rows_text
 rows_next m = rw (add-one m) refl
 
+-- the last row
+pub rows_last : (m : ℕ) → m ≡ 255 → rows_text 256 ≡ rows_text m ++ row_text m
+rows_last m e = rw e (rows_next 255)
+
 pub rows-length : (m : ℕ) → m ≤ 256 → length (rows_text m) ≤ 12 * m
 unfolding rows_text
 rows-length zero h = omega arith
 rows-length (suc m) h = omega (arith, length-append (rows_text m) (row_text m), row-length m (omega arith), rows-length m (omega arith))
 
--- the header at the start
-pub header-wrote : (out : List ℕ) {mid : List ℕ} {a : ℕ} → mid ≡ table_header ++ drop 16 out → a ≡ 16 → Wrote out 0 table_header mid a
-unfolding placed
-header-wrote out e k = (e, k)
-
 -- the header, and the rows after it
-pub table-wrote : (out : List ℕ) {mid after : List ℕ} {a r : ℕ} → Wrote out 0 table_header mid a → Wrote mid a (rows_text 256) after r
-    → (after ≡ placed out 0 table_text) × (r ≡ length table_text)
+pub table-wrote : (w : Writer) {w₁ w₂ : Writer} → w.at ≡ 0 → Wrote w table_header w₁ → Wrote w₁ (rows_text 256) w₂ → (w₂.out.now ≡ placed w.out.now 0 table_text) × (w₂.at ≡ length table_text)
 unfolding table_text
-table-wrote out first next =
-    let w = wrote-next out _ _ 0 _ _ table_header (rows_text 256) (omega arith) first next in
-    (w.0, omega (arith, w.1))
+table-wrote w start first next =
+    let whole : Wrote w (table_header ++ rows_text 256) _ = wrote_next (omega (arith, start)) first next in
+    (whole.memory ∙ rw start refl, omega (arith, whole.place, start))
 
 -- the room of `main` is enough
 pub table-length : length table_text ≤ 4096

@@ -1,49 +1,48 @@
 // Prints the table of marks (RULES 5.14): a header, then the low and the high mark of each median.
+// Kept, point 6: no heap: a buffer, and how much of it is text.
 #![tactic(auto)]
 
-ghost use Rattle.std.specs.Prelude.{◌≡◌, [], ◌∷◌, ◌++◌, ◌+◌, ◌≤◌, length};
-ghost use Rattle.decimal.specs.Placed.{placed};
+ghost use Rattle.std.specs.Prelude.{◌≡◌, [], ◌∷◌, ◌++◌, ◌≤◌, length};
+ghost use Rattle.decimal.specs.Placed.{placed, HasRoom, Wrote};
 ghost use Rattle.decimal.specs.Writing.{decimal};
 ghost use Rattle.marks.specs.Text.{row_text, rows_text, table_text};
 
+use decimal::Writer;
 use std::io;
 
 // Room for the text: 16 bytes of the header and at most 12 of each row, and what a writer asks for after its place.
 const TABLE_ROOM: usize = 4096;
 
 // A number, and the byte that ends it. `put_number` asks for 20 bytes, whatever the number.
-fn put_cell(out: &mut [u8], at: usize, n: u8, end: u8) -> usize
-    requires { at + 21 ≤ length out.old }
-    ensures { (out.new ≡ placed out.old at (decimal n ++ (end ∷ []))) × (result ≡ at + length (decimal n ++ (end ∷ []))) }
+// Kept: beside `put_field` of `session`; a method of the writer for both, with a contract of its own, would not be shorter than these two lines.
+fn put_cell(text: &mut Writer<'_>, n: u8, end: u8)
+    requires { HasRoom text.old 21 }
+    ensures { Wrote text.old (decimal n ++ (end ∷ [])) text.new }
 {
-    let e = decimal::put_number(out, at, n as u64);
-    decimal::put_byte(out, e, end)
+    text.put_number(u64::from(n));
+    text.put_byte(end);
 }
 
 // The row of a median: three cells, so three times their room.
-fn put_row(out: &mut [u8], at: usize, median: u8) -> usize
-    requires { at + 63 ≤ length out.old }
-    ensures { (out.new ≡ placed out.old at (row_text median)) × (result ≡ at + length (row_text median)) }
+fn put_row(text: &mut Writer<'_>, median: u8)
+    requires { HasRoom text.old 63 }
+    ensures { Wrote text.old (row_text median) text.new }
 {
     let low = canny_marks::low_threshold(median);
     let high = canny_marks::high_threshold(median);
-    let a = put_cell(out, at, median, b',');
-    let b = put_cell(out, a, low, b',');
-    put_cell(out, b, high, b'\n')
+    put_cell(text, median, b',');
+    put_cell(text, low, b',');
+    put_cell(text, high, b'\n');
 }
 
 // The rows of all medians. The last one starts after at most 255 × 12 bytes.
-fn put_rows(out: &mut [u8], at: usize) -> usize
-    requires { at + 3123 ≤ length out.old }
-    ensures { (out.new ≡ placed out.old at (rows_text 256)) × (result ≡ at + length (rows_text 256)) }
+fn put_rows(text: &mut Writer<'_>)
+    requires { HasRoom text.old 3123 }
+    ensures { Wrote text.old (rows_text 256) text.new }
 {
-    let mut e = at;
-    let mut m: u16 = 0;
-    while m < 256 {
-        e = put_row(out, e, m as u8);
-        m += 1;
+    for m in 0..=u8::MAX {
+        put_row(text, m);
     }
-    e
 }
 
 // The whole text, at the start of `out`, and its length. The bytes after it stay.
@@ -51,10 +50,10 @@ fn put_table(out: &mut [u8]) -> usize
     requires { 4096 ≤ length out.old }
     ensures { (out.new ≡ placed out.old 0 table_text) × (result ≡ length table_text) }
 {
-    let header = b"median,low,high\n";
-    let e = header.len();
-    out[..e].copy_from_slice(header);
-    put_rows(out, e)
+    let mut text = Writer { out, at: 0 };
+    text.put_text(b"median,low,high\n");
+    put_rows(&mut text);
+    text.at
 }
 
 fn main(rt: HostRuntime) -> io::Result<()> {

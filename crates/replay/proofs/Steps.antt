@@ -1,40 +1,47 @@
--- One more number of the generator, and one more element of a folded list.
-use mathlib.Core.Path.{◌≡◌, refl}
-use mathlib.Core.List.{List, [], ◌∷◌}
-use Prim.Native.Nat.{ℕ, zero, suc, ◌+◌, ◌≤◌, ◌<◌}
-use native.Mathlib.Numerals.{add-one}
-use native.Mathlib.Omega.{arith}
-use lib.ListN.{length, drop, get_or}
-use lib.Seq.{drop-cons}
-use lib.IntN.{ℤ, pos}
+-- The library's folds and bytes are those of the definitions.
+use Rattle.std.proofs.Common.{◌≡◌, refl, ◌+◌, ◌≤◌, length, take, add-one, List, [], ◌∷◌, ℕ, ℤ, pos, negsuc, arith, w32, w64, fold}
+use Rattle.std.proofs.lemmas.List.{take_all}
+use Rattle.std.proofs.Math.Nat.{div-div-eq-div-mul}
+use Rattle.std.specs.Int.{cast_unsigned, to_le_bytes}
 use Rattle.replay.specs.declared.Digest.{Digest}
 use Rattle.replay.specs.Generator.{next_of, after}
 use Rattle.replay.specs.Digest.{step_of, fed, fed_signed, bits_of, least_first}
 
+fold_fed : (d : Digest) (s : List ℕ) → fold step_of d s ≡ fed d s
+unfolding fed
+fold_fed d [] = refl
+fold_fed d (x ∷ s) = fold_fed (step_of d x) s
+
+-- all bytes are fed
+pub fed_all : (d e : Digest) (s : List ℕ) (i : ℕ) → e ≡ fold step_of d (take i s) → length s ≤ i → e ≡ fed d s
+fed_all d e s i h b = rw (h, take_all i s b) (fold_fed d s)
+
+bits-cast : (z : ℤ) → bits_of z ≡ cast_unsigned w32 z
+bits-cast (pos n) = refl
+bits-cast (negsuc n) = omega arith
+
+-- one signed number more
+abbrev pub word_of : Digest → ℤ → Digest
+word_of d z = fed d (least_first 4 (cast_unsigned w32 z))
+
+fold_signed : (d : Digest) (s : List ℤ) → fold word_of d s ≡ fed_signed d s
+unfolding fed_signed
+fold_signed d [] = refl
+fold_signed d (z ∷ s) = rw (bits-cast z) (fold_signed (word_of d z) s)
+
+-- all numbers are fed
+pub signed_all : (d e : Digest) (s : List ℤ) (i : ℕ) → e ≡ fold word_of d (take i s) → length s ≤ i → e ≡ fed_signed d s
+signed_all d e s i h b = rw (h, take_all i s b) (fold_signed d s)
+
+pub four_bytes : (n : ℕ) → least_first 4 n ≡ to_le_bytes w32 n
+unfolding least_first
+four_bytes n = simp div-div-eq-div-mul
+
+pub eight_bytes : (n : ℕ) → least_first 8 n ≡ to_le_bytes w64 n
+unfolding least_first
+eight_bytes n = simp div-div-eq-div-mul
+
+-- one more number of the generator
 pub after_more : (n x : ℕ) → after (n + 1) x ≡ next_of (after n x)
 unfolding after
 after_more n x = rw (add-one n) refl
-
--- what is left to feed from place i on, given one element at a time
-pub fed-more : (d : Digest) (s : List ℕ) (i : ℕ) → i < length s → fed (step_of d (get_or s i 0)) (drop (i + 1) s) ≡ fed d (drop i s)
-unfolding fed
-fed-more d s i h = rw (add-one i, drop-cons s i 0 h) refl
-
-pub fed-signed-more : (d : Digest) (s : List ℤ) (i : ℕ) → i < length s → fed_signed (fed d (least_first 4 (bits_of (get_or s i (pos 0))))) (drop (i + 1) s) ≡ fed_signed d (drop i s)
-unfolding fed_signed
-fed-signed-more d s i h = rw (add-one i, drop-cons s i (pos 0) h) refl
-
--- past the end nothing is left
-drop_all : {A : Type 0} (s : List A) (i : ℕ) → length s ≤ i → drop i s ≡ []
-drop_all [] zero h = refl
-drop_all [] (suc i) h = refl
-drop_all (x ∷ s) zero h = absurd (omega arith)
-drop_all (x ∷ s) (suc i) h = drop_all s i (omega arith)
-
-pub fed-all : (d : Digest) (s : List ℕ) (i : ℕ) → length s ≤ i → fed d (drop i s) ≡ d
-unfolding fed
-fed-all d s i h = rw (drop_all s i h) refl
-
-pub fed-signed-all : (d : Digest) (s : List ℤ) (i : ℕ) → length s ≤ i → fed_signed d (drop i s) ≡ d
-unfolding fed_signed
-fed-signed-all d s i h = rw (drop_all s i h) refl

@@ -1,17 +1,15 @@
 -- The lists of calls that `replay_filter` makes (compare/README.md, "Replays"): a part of the comparison with the Rust (RULES 14.3).
-use Rattle.std.specs.Prelude.{Bool, cond, List, [], ◌∷◌, ℕ, zero, suc, ◌+◌, ◌*◌, ◌%◌, eqb, pos, negsuc, get_or, replicate}
+use Rattle.std.specs.Prelude.{Bool, cond, List, [], ◌∷◌, ℕ, zero, suc, ◌+◌, ◌*◌, ◌%◌, eqb, pos, negsuc, get_or, replicate, None}
 use Rattle.laws.specs.Floats.{float}
 use Rattle.timestamp.specs.declared.Timestamp.{Timestamp}
 use Rattle.score.specs.declared.Components.{Components}
-use Rattle.score.specs.declared.KernelSize.TheVariants.{Auto}
 use Rattle.score.specs.Scores.{default_weights, luma_only_weights}
 use Rattle.filter.specs.declared.FilterMode.{FilterMode}
 use Rattle.filter.specs.declared.FilterMode.TheVariants.{Suppress, Merge}
 use Rattle.content.specs.declared.Options.{Options}
 use Rattle.content.specs.declared.Detector.{Detector}
-use Rattle.content.specs.declared.Answer.{Answer}
 use Rattle.content.specs.Options.{options}
-use Rattle.content.specs.State.{cleared_answer, settled}
+use Rattle.content.specs.State.{Answer, cleared_answer, settled}
 use Rattle.frame_call.specs.Call.{Outcome, luma, memory}
 use Rattle.content.specs.Step.{called}
 use Rattle.replay.specs.declared.Digest.{Digest}
@@ -35,7 +33,7 @@ minimum_of b =
     0
 
 abbrev pub options_of : ℕ → ℕ → ℕ → ℕ → Options
-options_of b1 b2 b3 b4 = options (float 27) (minimum_of b4) (weights_of b3) (mode_of b1) Auto (eqb (b2 % 2) 1)
+options_of b1 b2 b3 b4 = options (float 27) (minimum_of b4) (weights_of b3) (mode_of b1) None (eqb (b2 % 2) 1)
 
 -- the stride of a frame, by its action: 0 for action 1, which is refused by 2 (RULES 2.6), otherwise 1
 abbrev pub stride_of : ℕ → ℕ

@@ -9,12 +9,13 @@ use replay::Digest;
 use std::io;
 
 // One pixel's hue, saturation and value.
+#[tactic(auto, unfolding(replay::specs::Digest::fed, arch_hsv::specs::Hsv::hsv_of))]
 fn pixel(d: Digest, p: u32) -> Digest
     requires { p < 16777216 }
     ensures { result ≡ fed d (pixel_bytes p) }
 {
     let hsv = arch_hsv::bgr_to_hsv_pixel((p / 65536) as u8, (p / 256 % 256) as u8, (p % 256) as u8);
-    replay::step(replay::step(replay::step(d, hsv.h), hsv.s), hsv.v)
+    d.step(hsv.h).step(hsv.s).step(hsv.v)
 }
 
 // The pixels from part * 2^20 on.
@@ -22,21 +23,17 @@ fn digest_of(part: u32) -> Digest
     requires { part < 16 }
     ensures { result ≡ digest_of (part * 1048576) 1048576 }
 {
-    let mut d = replay::empty();
     let first = part * 1048576;
-    let mut i = 0;
-    while i < 1048576 {
+    let mut d = Digest::empty();
+    for i in 0..1048576 {
         d = pixel(d, first + i);
-        i += 1;
     }
     d
 }
 
 fn main(rt: HostRuntime) -> io::Result<()> {
-    let mut part = 0;
-    while part < 16 {
-        replay::print_line(&rt, b"hsv", part as u64, replay::value(digest_of(part)))?;
-        part += 1;
+    for part in 0..16u32 {
+        replay::print_line(&rt, "hsv", part as u64, digest_of(part).value())?;
     }
     Ok(())
 }

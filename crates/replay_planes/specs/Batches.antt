@@ -3,7 +3,7 @@ use Rattle.std.specs.Prelude.{[], ◌∷◌, ℕ, zero, suc, ◌+◌, ◌*◌, �
 use Rattle.frame.specs.Checks.{luma_refusal, bgr_refusal, hsv_refusal}
 use Rattle.replay.specs.declared.Digest.{Digest}
 use Rattle.replay.specs.Digest.{empty}
-use Rattle.replay_planes.specs.declared.Run.{Run}
+use Rattle.replay.specs.declared.Run.{Run}
 use Rattle.replay_planes.specs.declared.Stage.{Stage}
 use Rattle.replay_planes.specs.declared.Stage.TheVariants.{CopyPlane, BgrToHsvPlanes, MeanAbsDiff, Sobel, Frame}
 use Rattle.replay_planes.specs.Stages.{copied, converted, differed, sobeled, answered, checked}

@@ -1,14 +1,13 @@
 -- The samples that are proved of the definitions (RULES 13.1): what the definitions give for each, and what it must be.
-use Rattle.std.specs.Prelude.{true, List, [], ◌∷◌, map, ℕ, suc, leb, ℤ, pos}
+use Rattle.std.specs.Prelude.{true, List, [], ◌∷◌, map, ℕ, suc, leb, ℤ, pos, None, Option, Some}
 use Rattle.arch_hsv.specs.Hsv.{hue, saturation, value}
 use Rattle.canny_marks.specs.Marks.{low_mark, high_mark}
 use Rattle.canny_marks.specs.Kernel.{auto_kernel_size}
-use Rattle.timestamp.specs.declared.MaybeTimestamp.{MaybeTimestamp}
-use Rattle.timestamp.specs.declared.MaybeTimestamp.TheVariants.{None, At}
 use Rattle.filter.specs.declared.FilterMode.{FilterMode}
 use Rattle.filter.specs.declared.FilterMode.TheVariants.{Suppress, Merge}
 use Rattle.filter.specs.Calls.{FilterCall, frame, filter_run}
 use Rattle.filter.specs.Claim.{answers}
+use Rattle.timestamp.specs.declared.Timestamp.{Timestamp}
 
 -- (H, S, V) of the pixel (B, G, R) (RULES 3)
 abbrev pub hsv : ℕ → ℕ → ℕ → List ℕ
@@ -31,10 +30,10 @@ abbrev pub strip : List FilterCall
 strip = scored 0 0 ∷ scored 400000 30 ∷ scored 900000 30 ∷ scored 1400000 30 ∷ scored 2400000 30 ∷ scored 3400000 5 ∷ []
 
 -- for each answer that is a cut: the number of its call, from 0, and the cut
-abbrev pub cuts_from : ℕ → List MaybeTimestamp → List ℤ
+abbrev pub cuts_from : ℕ → List (Option Timestamp) → List ℤ
 cuts_from n [] = []
 cuts_from n (None ∷ rs) = cuts_from (suc n) rs
-cuts_from n (At t ∷ rs) = pos n ∷ t.micros ∷ cuts_from (suc n) rs
+cuts_from n (Some t ∷ rs) = pos n ∷ t.micros ∷ cuts_from (suc n) rs
 
 -- the cuts of these frames in this mode, with a minimum of 1,000,000 and `initial_cut` on (RULES 7.3, 7.4)
 abbrev pub filtered : FilterMode → List ℤ

@@ -1,3 +1,4 @@
+pub mod Literals
 pub mod Sizes
 pub mod ZeroSum
 pub mod Samples

@@ -1,10 +1,10 @@
 -- Instances of the definitions, computed.
+use Rattle.std.proofs.Common.{None, Some}
 use mathlib.Core.Path.{◌≡◌, refl}
 use mathlib.Core.Bool.{true, false}
 use Prim.Native.Nat.{ℕ}
 use lib.IntN.{pos}
 use lib.Ieee.{Float, nan, inf, fin, binary64, add, mul, div, eq, ne, le, of_int, of_bits}
-use Rattle.score.specs.declared.KernelSize.TheVariants.{Auto, Set}
 use Rattle.laws.specs.Floats.{float}
 use Rattle.score.specs.Scores.{components, default_weights, luma_only_weights, sum_abs, weighed, score_of, edges_enabled}
 use Rattle.score.specs.Settings.{too_heavy, any_too_heavy, all_zero, settings_refusal}
@@ -37,7 +37,7 @@ signs = (refl, refl)
 
 -- the refusal of w as the hue weight, beside zeros
 by : Float → ℕ
-by w = settings_refusal (components w (float 0) (float 0) (float 0)) Auto false
+by w = settings_refusal (components w (float 0) (float 0) (float 0)) None false
 
 -- 2^20 passes, the next f64 does not; nor do a NaN and an infinity; zeros are 7
 weights : (by (float 1048576) ≡ 0) × (by (bits 0x4130000000000001) ≡ 6) × (by nan ≡ 6) × (by (inf true) ≡ 6) × (by (float 0) ≡ 7) × (by (fin true 0 (pos 0)) ≡ 7)
@@ -46,9 +46,9 @@ weights = (refl, refl, refl, refl, refl, refl)
 
 -- k of 2, 3, 4 and 5; a NaN threshold is named after a bad k
 kernels :
-    (settings_refusal default_weights (Set 2) false ≡ 8)
-    × (settings_refusal default_weights (Set 3) false ≡ 0)
-    × (settings_refusal default_weights (Set 4) true ≡ 8)
-    × (settings_refusal luma_only_weights (Set 5) true ≡ 9)
+    (settings_refusal default_weights (Some 2) false ≡ 8)
+    × (settings_refusal default_weights (Some 3) false ≡ 0)
+    × (settings_refusal default_weights (Some 4) true ≡ 8)
+    × (settings_refusal luma_only_weights (Some 5) true ≡ 9)
 unfolding settings_refusal any_too_heavy too_heavy all_zero le eq of_int
 kernels = (refl, refl, refl, refl)

@@ -1,10 +1,8 @@
 -- The refusals 6 to 9 of settings (RULES 10.1), in their order (RULES 10.5).
-use Rattle.std.specs.Prelude.{Bool, false, not, ◌&&◌, ◌||◌, [], ◌∷◌, ℕ, ◌%◌, ltb, eqb, Float}
+use Rattle.std.specs.Prelude.{Bool, false, not, ◌&&◌, ◌||◌, [], ◌∷◌, ℕ, ◌%◌, ltb, eqb, Float, None, Option, Some}
 use Rattle.std.specs.Float.Ieee.{le, eq}
-use Rattle.frame.specs.Refusal.{first_that}
+use Rattle.refusal.specs.Refusal.{first_that}
 use Rattle.score.specs.declared.Components.{Components}
-use Rattle.score.specs.declared.KernelSize.{KernelSize}
-use Rattle.score.specs.declared.KernelSize.TheVariants.{Auto, Set}
 use Rattle.laws.specs.Floats.{float}
 use Rattle.score.specs.Floats.{abs_of}
 
@@ -26,12 +24,12 @@ all_zero w =
     && eq w.delta_edges (float 0)
 
 -- 8: a k is set that is below 3 or even
-abbrev pub bad_kernel : KernelSize → Bool
-bad_kernel Auto = false
-bad_kernel (Set k) = ltb k 3 || eqb (k % 2) 0
+abbrev pub bad_kernel : Option ℕ → Bool
+bad_kernel None = false
+bad_kernel (Some k) = ltb k 3 || eqb (k % 2) 0
 
 -- the first of 6 to 9 that holds, or 0 (RULES 10.1, 10.5). 9 is a threshold or `min_content_val` that is NaN: each detector says by `nan`
 -- whether one of its own is.
-unfoldable pub settings_refusal : Components → KernelSize → Bool → ℕ
+unfoldable pub settings_refusal : Components → Option ℕ → Bool → ℕ
 settings_refusal weights kernel nan =
     first_that ((any_too_heavy weights, 6) ∷ (all_zero weights, 7) ∷ (bad_kernel kernel, 8) ∷ (nan, 9) ∷ [])

@@ -1,16 +1,21 @@
 // The score of a frame: four components and their weights (RULES 6), and refusals 6 to 9 of settings (RULES 10.1). Every function
 // takes any floats, NaN and infinities among them.
+// Kept, point 2: the Rust's names; a reader and a setter for each field.
+// Kept, point 3: four fields by their names, as RULES 6 sums and tests them; an array of them would be made for it.
 #![tactic(auto)]
 
 ghost use Rattle.std.specs.Prelude.{◌≡◌};
 ghost use Rattle.std.specs.Float.Ieee.{is_nan, le};
+ghost use Rattle.refusal.specs.Refusal.{number_in};
 ghost use Rattle.score.specs.Floats.{abs_of};
 ghost use Rattle.score.specs.Scores.{components, default_weights, luma_only_weights, sum_abs, weighed, score_of, edges_enabled};
 ghost use Rattle.score.specs.Settings.{too_heavy, any_too_heavy, all_zero, bad_kernel, settings_refusal};
 
+use refusal::Refusal;
+
 // The four components of a score: a frame's deltas, or their weights. The Rust's `set_` forms are left out: a value
 // goes in and comes out.
-#[derive(Clone, Copy)]
+#[derive(Clone, Copy, Debug, PartialEq)]
 pub struct Components {
     pub delta_hue: f64,
     pub delta_sat: f64,
@@ -34,20 +39,6 @@ pub const LUMA_ONLY_WEIGHTS: Components = Components {
     delta_edges: 0.0,
 };
 
-// A score or a ratio that may be missing. The Rust's `Option<f64>`.
-#[derive(Clone, Copy)]
-pub enum MaybeScore {
-    None,
-    Some(f64),
-}
-
-// Components that may be missing. The Rust's `Option<Components>`.
-#[derive(Clone, Copy)]
-pub enum MaybeComponents {
-    None,
-    Some(Components),
-}
-
 impl Components {
     pub fn new(delta_hue: f64, delta_sat: f64, delta_lum: f64, delta_edges: f64) -> Self
         ensures { result ≡ components delta_hue delta_sat delta_lum delta_edges }
@@ -60,13 +51,8 @@ impl Components {
         }
     }
 
-    // A constant has no contract of its own: this function and the next prove the two.
-    pub fn default() -> Self
-        ensures { result ≡ default_weights }
-    {
-        DEFAULT_WEIGHTS
-    }
-
+    // A constant has no contract of its own: this function and `default` prove the two.
+    #[tactic(auto, using(crate::proofs::Literals::literals))]
     pub fn luma_only() -> Self
         ensures { result ≡ luma_only_weights }
     {
@@ -126,6 +112,7 @@ impl Components {
     }
 
     // The sum of the absolute weights, left to right.
+    #[tactic(auto, unfolding(crate::specs::Scores::sum_abs))]
     pub fn sum_abs(self) -> f64
         ensures { result ≡ sum_abs self }
     {
@@ -133,20 +120,28 @@ impl Components {
     }
 }
 
+impl Default for Components {
+    ghost is_default = { λ x. x ≡ default_weights };
+
+    #[tactic(auto, using(crate::proofs::Literals::literals))]
+    fn default() -> Self
+        ensures { result ≡ default_weights }
+    {
+        DEFAULT_WEIGHTS
+    }
+}
+
 // |x|.
+// Kept: its contract is the definition `abs_of`; each use of the library's `abs` in its place would want the lemma that the two are one.
+#[tactic(auto, using(crate::proofs::Sizes::sign_off))]
 pub fn abs(x: f64) -> f64
     ensures { result ≡ abs_of x }
 {
-    if x < 0.0 {
-        return -x;
-    }
-    if x == 0.0 {
-        return 0.0;
-    }
-    x
+    x.abs()
 }
 
 // The deltas, each times its weight, summed left to right, over the sum of the absolute weights.
+#[tactic(auto, unfolding(crate::specs::Scores::score_of, crate::specs::Scores::weighed))]
 pub fn score(deltas: Components, weights: Components) -> f64
     ensures { result ≡ score_of deltas weights }
 {
@@ -158,6 +153,7 @@ pub fn score(deltas: Components, weights: Components) -> f64
 }
 
 // Whether the edge weight is not 0; -0.0 is 0.
+#[tactic(auto, using(crate::proofs::Literals::literals), unfolding(crate::specs::Scores::edges_enabled))]
 pub fn edges_enabled(weights: Components) -> bool
     ensures { result ≡ edges_enabled weights }
 {
@@ -165,73 +161,70 @@ pub fn edges_enabled(weights: Components) -> bool
 }
 
 // Whether a score is at or over a threshold; no where one is NaN.
+// Kept: the comparison of RULES 6.7, by its name.
 pub fn above(score: f64, threshold: f64) -> bool
     ensures { result ≡ le threshold score }
 {
     score >= threshold
 }
 
+// Kept: public by the name of its definition; the library's is its body.
 pub fn is_nan(x: f64) -> bool
     ensures { result ≡ is_nan x }
 {
-    x != x
-}
-
-// The side of the dilation window: worked out from the frame's size, or set. The Rust's `Option<u32>`.
-#[derive(Clone, Copy)]
-pub enum KernelSize {
-    Auto,
-    Set(u32),
+    x.is_nan()
 }
 
 // Whether a weight is not finite, or beyond 2^20 in size.
+#[tactic(auto, using(crate::proofs::Literals::literals), unfolding(crate::specs::Settings::too_heavy))]
 fn too_heavy(w: f64) -> bool
     ensures { result ≡ too_heavy w }
 {
     !(abs(w) <= 1048576.0)
 }
 
+#[tactic(auto, unfolding(crate::specs::Settings::any_too_heavy))]
 fn any_too_heavy(w: Components) -> bool
     ensures { result ≡ any_too_heavy w }
 {
     too_heavy(w.delta_hue)
-        | too_heavy(w.delta_sat)
-        | too_heavy(w.delta_lum)
-        | too_heavy(w.delta_edges)
+        || too_heavy(w.delta_sat)
+        || too_heavy(w.delta_lum)
+        || too_heavy(w.delta_edges)
 }
 
+#[tactic(auto, using(crate::proofs::Literals::literals), unfolding(crate::specs::Settings::all_zero))]
 fn all_zero(w: Components) -> bool
     ensures { result ≡ all_zero w }
 {
-    (w.delta_hue == 0.0) & (w.delta_sat == 0.0) & (w.delta_lum == 0.0) & (w.delta_edges == 0.0)
+    w.delta_hue == 0.0 && w.delta_sat == 0.0 && w.delta_lum == 0.0 && w.delta_edges == 0.0
 }
 
 // Whether a set k is below 3 or even.
-fn bad_kernel(kernel_size: KernelSize) -> bool
+fn bad_kernel(kernel_size: Option<u32>) -> bool
     ensures { result ≡ bad_kernel kernel_size }
 {
-    match kernel_size {
-        KernelSize::Auto => false,
-        KernelSize::Set(k) => (k < 3) | (k % 2 == 0),
-    }
+    kernel_size.is_some_and(|k| k < 3 || k % 2 == 0)
 }
 
-// Refusals 6 to 9 of settings, the first whose condition holds; 0 for settings that pass. `nan` says that a threshold
-// or `min_content_val` is NaN.
-pub fn settings_refusal(weights: Components, kernel_size: KernelSize, nan: bool) -> u32
-    ensures { result ≡ settings_refusal weights kernel_size nan }
+// Refusals 6 to 9 of settings, the first whose condition holds. `nan` says that a threshold or `min_content_val` is NaN.
+#[tactic(auto, unfolding(crate::specs::Settings::settings_refusal))]
+pub fn check_settings(
+    weights: Components,
+    kernel_size: Option<u32>,
+    nan: bool,
+) -> Result<(), Refusal>
+    ensures { number_in result ≡ settings_refusal weights kernel_size nan }
 {
     if any_too_heavy(weights) {
-        return 6;
+        Err(Refusal::WeightTooHeavy)
+    } else if all_zero(weights) {
+        Err(Refusal::NoWeight)
+    } else if bad_kernel(kernel_size) {
+        Err(Refusal::BadKernel)
+    } else if nan {
+        Err(Refusal::NotANumber)
+    } else {
+        Ok(())
     }
-    if all_zero(weights) {
-        return 7;
-    }
-    if bad_kernel(kernel_size) {
-        return 8;
-    }
-    if nan {
-        return 9;
-    }
-    0
 }

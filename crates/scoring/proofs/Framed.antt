@@ -2,8 +2,11 @@
 use mathlib.Core.Path.{◌≡◌, ap, ◌∙◌}
 use mathlib.Core.Bool.{Bool, true, false, cond}
 use mathlib.Core.List.{List, ◌++◌}
-use Prim.Native.Nat.{ℕ, ◌+◌, ◌*◌, ◌≤◌}
-use lib.ListN.{length, take}
+use Prim.Native.Nat.{ℕ, ◌+◌, ◌-◌, ◌*◌, ◌≤◌}
+use native.Mathlib.Omega.{arith}
+use lib.ListN.{length, take, drop}
+use lib.Seq.{drop-drop}
+use borrow.Rule.Slice.PartMut.{put_mid}
 use Rattle.arch_planes.specs.Difference.{sum_abs_diff}
 use Rattle.canny.specs.Edges.{edge_plane}
 use Rattle.stream.specs.declared.Sums.{Sums}
@@ -17,13 +20,23 @@ abbrev with_edges : Sums → ℕ → Sums
 with_edges s e = record { hue = s.hue; saturation = s.saturation; luma = s.luma; edges = e; count = s.count }
 
 module _ (k w h : ℕ) (scratch store : List ℕ) (inside : w * h + (w * h + w * h) ≤ length scratch) where
-  -- edges off
-  pub plain-sums : (scored : Bool) (s : Sums) → s ≡ cond scored (plane_sums (w * h) (planes_in (w * h) scratch) 0 store) no_sums
-      → s ≡ frame_sums false scored k w h (planes_in (w * h) scratch) store
-  unfolding frame_sums
-  plain-sums true s e = e
-  plain-sums false s e = e
+  -- the three planes, taken over in one part
+  pub taken : (part : List ℕ) → part ≡ take (3 * (w * h)) scratch → part ++ drop (3 * (w * h)) store ≡ kept (w * h) scratch store inside
+  taken part p =
+      let e : 3 * (w * h) ≡ w * h + (w * h + w * h) = omega arith in
+      rw (p, e)
 
+  -- and the fourth
+  pub edge_taken : (store₁ scratch₁ part : List ℕ) → part ≡ take (4 * (w * h) - 3 * (w * h)) (drop (3 * (w * h)) scratch₁)
+      → put_mid (3 * (w * h)) (4 * (w * h) - 3 * (w * h)) store₁ part ≡ take (w * h + (w * h + w * h)) store₁ ++ (edge_part (w * h) scratch₁ ++ rest_part (w * h) store₁)
+  edge_taken store₁ scratch₁ part p =
+      let n = w * h in
+      let k : 4 * (w * h) - 3 * (w * h) ≡ w * h = omega arith in
+      let e : 3 * (w * h) ≡ w * h + (w * h + w * h) = omega arith in
+      let f : w * h + (w * h + w * h) + w * h ≡ w * h + (w * h + (w * h + w * h)) = omega arith in
+      rw (p, k, e, drop-drop n (n + (n + n)) store₁, f)
+
+  -- edges off
   pub plain-store : (after : List ℕ) → after ≡ kept (w * h) scratch store inside → after ≡ store_after false k w h (planes_in (w * h) scratch) store
   unfolding store_after
   plain-store after e = e ∙ kept-is (w * h) scratch store inside

@@ -5,7 +5,6 @@ use Prim.Native.Nat.{ℕ, ◌+◌, ◌≤◌}
 use native.Mathlib.Omega.{arith}
 use lib.ListN.{length, take, drop, take-append-drop, length-append}
 use lib.Seq.{take_at, drop_at, take-add, drop-drop, length-take-le}
-use borrow.Rule.Slice.PartMut.{put_mid}
 use Rattle.scoring.specs.Planes.{hue_part, saturation_part, luma_part, edge_part, rest_part}
 
 -- the first three planes, one after the other
@@ -26,10 +25,6 @@ luma-of n l h =
 
 regroup : (a b c d : List ℕ) → (a ++ (b ++ c)) ++ d ≡ a ++ (b ++ (c ++ d))
 regroup a b c d = simp append_assoc
-
--- a part just written
-pub put-part : (a n : ℕ) (l v : List ℕ) → a ≤ length l → length v ≡ n → take n (drop a (put_mid a n l v)) ≡ v
-put-part a n l v h e = rw (drop_at (take a l) (v ++ drop n (drop a l)) a (length-take-le a l h)) (take_at v (drop n (drop a l)) n e)
 
 module _ (n : ℕ) (s t : List ℕ) (inside : n + (n + n) ≤ length s) where
   -- t with the first three planes of s

@@ -1,19 +1,17 @@
 -- The differences of a frame's planes with those of the store, as whole sums and the number of pixels (RULES 4.1, 4.4), and the store after an
 -- accepted frame (RULES 12.3).
-use Rattle.std.specs.Prelude.{Bool, cond, List, ◌++◌, ℕ, ◌*◌}
+use Rattle.std.specs.Prelude.{Bool, cond, List, ◌++◌, ℕ, ◌*◌, None, Option, Some}
 use Rattle.arch_planes.specs.Difference.{sum_abs_diff}
 use Rattle.canny_marks.specs.Kernel.{auto_kernel_size}
 use Rattle.canny.specs.Edges.{edge_plane}
-use Rattle.score.specs.declared.KernelSize.{KernelSize}
-use Rattle.score.specs.declared.KernelSize.TheVariants.{Auto, Set}
 use Rattle.stream.specs.declared.Sums.{Sums}
 use Rattle.stream.specs.Stream.{no_sums}
 use Rattle.scoring.specs.Planes.{Planes, hue_part, saturation_part, luma_part, edge_part, rest_part}
 
 -- k, the side of the window around an edge: the set one, or by the frame's size when none is set (RULES 5.13)
-abbrev pub kernel_of : KernelSize → ℕ → ℕ → ℕ
-kernel_of Auto w h = auto_kernel_size w h
-kernel_of (Set k) w h = k
+abbrev pub kernel_of : Option ℕ → ℕ → ℕ → ℕ
+kernel_of None w h = auto_kernel_size w h
+kernel_of (Some k) w h = k
 
 -- the whole sums of the differences in hue, saturation and luma over n pixels (RULES 4.1); the edge sum is e
 abbrev pub plane_sums : ℕ → Planes → ℕ → List ℕ → Sums

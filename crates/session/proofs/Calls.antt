@@ -1,9 +1,10 @@
 -- A line's call: the luma call of its frame, whatever scratch and magnitudes are lent, or 16.
-use mathlib.Core.Path.{◌≡◌, refl, sym, ap, ◌∙◌}
+use mathlib.Core.Path.{◌≡◌, refl, sym, ap, subst, ◌∙◌}
+use Rattle.std.proofs.Common.{Option, Some, None}
+use Rattle.std.specs.Prelude.{IfSome}
 use mathlib.Core.Bool.{Bool, true, false, cond}
 use mathlib.Core.List.{List, [], ◌∷◌}
 use Prim.Native.Nat.{ℕ, ◌*◌, ◌≤◌}
-use native.Mathlib.Omega.{arith}
 use borrow.Author.Tests.{leb-true}
 use lib.Dec.{eqb, leb}
 use lib.IntN.{ℤ, pos}
@@ -21,7 +22,7 @@ use Rattle.decimal.specs.Reading.{is_up_to, is_stamp, number}
 use Rattle.frame_line.specs.declared.FrameLine.{FrameLine}
 use Rattle.frame_line.specs.Line.{is_frame_of, is_frame_line, fields, frame_of, line_of, luma_of}
 use Rattle.session.specs.declared.Session.{Session}
-use Rattle.session.specs.Output.{line_call}
+use Rattle.session.specs.Output.{Place, line_call}
 use Rattle.session.specs.Sessions.{place_of, frame_call_of}
 
 -- a call, whatever scratch and magnitudes of these lengths it is lent
@@ -40,45 +41,35 @@ pub settled-defaults : (o : Options) → o ≡ defaults → (settled o).detector
 unfolding settled
 settled-defaults o e = rw e (ap fresh (same_cond (eqb (options_refusal defaults) 0) defaults))
 
--- a line that is read as a frame is one, of at most 1,024 pixels
-frame-of : (parts : List (List ℕ)) → is_frame_of parts ≡ true → (frame_of parts).is_frame ≡ true
-unfolding is_frame_of frame_of
-frame-of [] h = h
-frame-of (s ∷ []) h = h
-frame-of (s ∷ w ∷ []) h = h
-frame-of (s ∷ w ∷ v ∷ vs) h = refl
+-- a frame line's frame has at most 1,024 pixels
+abbrev Small : Option FrameLine → Type 0
+Small r = IfSome r (λ f. f.width * f.height ≤ 1024)
 
-pixels-of : (parts : List (List ℕ)) → is_frame_of parts ≡ true → (frame_of parts).width * (frame_of parts).height ≤ 1024
+pixels-of : (parts : List (List ℕ)) → is_frame_of parts ≡ true → Small (frame_of parts)
 unfolding is_frame_of frame_of
-pixels-of [] h = omega arith
-pixels-of (s ∷ []) h = omega arith
-pixels-of (s ∷ w ∷ []) h = omega arith
+pixels-of [] h = tt
+pixels-of (s ∷ []) h = tt
+pixels-of (s ∷ w ∷ []) h = tt
 pixels-of (s ∷ w ∷ v ∷ vs) h =
     let stamped = (and-true (is_stamp s) _ h).1 in
     let wide = (and-true (is_up_to 4294967295 w) _ stamped).1 in
     let high = (and-true (is_up_to 4294967295 v) _ wide).1 in
     leb-true (number w * number v) 1024 (and-true (leb (number w * number v) 1024) _ high).0
 
-by-frame : (line : List ℕ) (t : Bool) → is_frame_line line ≡ t → ((line_of line).is_frame ≡ t) × ((line_of line).width * (line_of line).height ≤ 1024)
+small-by : (line : List ℕ) (t : Bool) → is_frame_line line ≡ t → Small (line_of line)
 unfolding line_of is_frame_line
-by-frame line true e =
-    let parts = (and-true (leb (length line) 8192) (is_frame_of (fields line)) e).1 in
-    rw e (frame-of (fields line) parts, pixels-of (fields line) parts)
-by-frame line false e = rw e (refl, omega arith)
+small-by line true e = rw e (pixels-of (fields line) (and-true (leb (length line) 8192) (is_frame_of (fields line)) e).1)
+small-by line false e = rw e tt
 
-pub line_frame : (line : List ℕ) → (line_of line).is_frame ≡ is_frame_line line
-line_frame line = (by-frame line (is_frame_line line) refl).0
-
-pub line-pixels : (line : List ℕ) → (line_of line).width * (line_of line).height ≤ 1024
-line-pixels line = (by-frame line (is_frame_line line) refl).1
+pub line-pixels : (line : List ℕ) (f : FrameLine) → Some f ≡ line_of line → f.width * f.height ≤ 1024
+line-pixels line f e = subst Small (sym e) (small-by line (is_frame_line line) refl)
 
 -- what a frame line brings, by the values read
-pub line-accepted : (s : Session) (line values store : List ℕ) (f : FrameLine) → f ≡ line_of line → is_frame_line line ≡ true → take (f.width * f.height) values ≡ luma_of (fields line)
-    → frame_call_of s f values store ≡ line_call (place_of s store) line
+pub line-accepted : (s : Session) (line : List ℕ) (f : FrameLine) → Some f ≡ line_of line → take (f.width * f.height) s.luma ≡ luma_of (fields line) → frame_call_of s f ≡ line_call (place_of s) line
 unfolding frame_call_of line_call
-line-accepted s line values store f e is same = rw (is, same, e)
+line-accepted s line f e same = rw (same, ← e) refl
 
 -- what another line brings
-pub line_refused : (s : Session) (line store : List ℕ) → is_frame_line line ≡ false → line_call (place_of s store) line ≡ record { answer = refused_answer s.detector 16; store = store }
+pub line_refused : (p : Place) (line : List ℕ) → None ≡ line_of line → line_call p line ≡ record { answer = refused_answer p.detector 16; store = p.store }
 unfolding line_call
-line_refused s line store no_line = rw no_line
+line_refused p line e = rw (← e) refl

@@ -1,102 +1,121 @@
--- The bytes of a line joined to those that are held, up to the first line feed.
+-- The bytes that are held of a line, and bytes of which only the last may be a line feed.
 use mathlib.Core.Path.{◌≡◌, refl, sym, ap, ◌∙◌}
 use mathlib.Core.Bool.{Bool, true, false}
-use mathlib.Core.List.{List, [], ◌∷◌, ◌++◌}
-use Prim.Native.Nat.{ℕ, suc, ◌+◌, ◌≤◌, ◌<◌}
-use native.Mathlib.Numerals.{add-one}
+use mathlib.Core.List.{List, [], ◌∷◌, ◌++◌, append_assoc, append-nil}
+use Prim.Native.Nat.{ℕ, suc, ◌+◌, ◌-◌, ◌≤◌, ◌<◌, min}
 use native.Mathlib.Omega.{arith}
-use lib.Dec.{eqb}
-use lib.ListN.{length, get_or, take, drop, set, drop_of_length-le}
-use lib.Seq.{length-take-le, take-suc, take-suc-set, drop-cons}
-use borrow.Author.Tests.{lt-ltb, le-ltb, eq-eqb, ne_eqb}
+use lib.Dec.{eqb, ltb}
+use lib.ListN.{length, get_or, take, length-append, length-take}
+use lib.Seq.{length-take-le, take_all, take-append-le, take-append-add}
+use borrow.Author.Tests.{ltb-true, ltb-false, eqb-true}
+use borrow.Rule.Slice.PartMut.{put_mid}
+use Rattle.std.proofs.lemmas.Slice.{take-put_mid}
 use Rattle.session.specs.Feeding.{State, hold, next, text_of, fed, fed_text, held_after, before_feed}
 
--- one byte more: it is stored, or the line is full
-pub keep-more : (line : List ℕ) (n b : ℕ) → length line ≡ 8193 → n < 8193 → take (n + 1) (set line n b) ≡ hold (take n line) b
-keep-more line n b size h =
-    let size-n = length-take-le n line (omega arith) in
-    rw (add-one n, take-suc-set line n b (omega arith), size-n, lt-ltb n 8193 h)
+-- of the bytes that follow, the first 8,193 of the line are held
+full : (held : List ℕ) (b : ℕ) (bs : List ℕ) (t : Bool) → ltb (length held) 8193 ≡ t → length held ≤ 8193 → (length (hold held b) ≤ 8193) × (take 8193 (hold held b ++ bs) ≡ take 8193 (held ++ (b ∷ bs)))
+full held b bs true e h = let less = ltb-true (length held) 8193 e in rw (e, append_assoc held (b ∷ []) bs) (omega (arith, length-append held (b ∷ [])), refl)
+full held b bs false e h =
+    let more = ltb-false (length held) 8193 e in
+    rw e (h, take-append-le 8193 held bs more ∙ sym (take-append-le 8193 held (b ∷ bs) more))
 
-pub keep-full : (line : List ℕ) (n b : ℕ) → length line ≡ 8193 → n ≤ 8193 → 8193 ≤ n → take n line ≡ hold (take n line) b
-keep-full line n b size h full = rw (length-take-le n line (omega arith), le-ltb n 8193 full)
-
-after_more : (held bs : List ℕ) (b : ℕ) → held_after held (bs ++ (b ∷ [])) ≡ hold (held_after held bs) b
+pub held-take : (held bs : List ℕ) → length held ≤ 8193 → held_after held bs ≡ take 8193 (held ++ bs)
 unfolding held_after
-after_more held [] b = refl
-after_more held (c ∷ bs) b = after_more (hold held c) bs b
+held-take held [] h = rw (append-nil held) (sym (take_all 8193 held h))
+held-take held (b ∷ bs) h =
+    let f = full held b bs (ltb (length held) 8193) refl h in
+    held-take (hold held b) bs f.0 ∙ f.1
 
-before-next : (chunk : List ℕ) (i : ℕ) → i < length chunk → (get_or chunk i 0 ≡ 10 → ⊥) → before_feed (drop i chunk) ≡ suc (before_feed (drop (suc i) chunk))
+-- a length over 8,193 stands for the whole line
+pub taken-within : (line : List ℕ) (n k : ℕ) → length line ≡ 8193 → k ≡ min n 8193 → take k line ≡ take n line
+taken-within line n k size first = by-test (ltb n 8193) refl
+  where
+    by-test : (t : Bool) → ltb n 8193 ≡ t → take k line ≡ take n line
+    by-test true e = let less = ltb-true n 8193 e in let same : k ≡ n = omega arith in rw same refl
+    by-test false e = let more = ltb-false n 8193 e in take_all k line (omega arith) ∙ sym (take_all n line (omega arith))
+
+-- the first 8,193 of the bytes that are held and of others after them
+first-of : (x bytes : List ℕ) (k m : ℕ) → length x ≡ k → m ≡ min (length bytes) (8193 - k) → k ≤ 8193 → take 8193 (x ++ bytes) ≡ x ++ take m bytes
+first-of x bytes k m size more h = by-test (ltb (length bytes) (8193 - k)) refl
+  where
+    by-test : (t : Bool) → ltb (length bytes) (8193 - k) ≡ t → take 8193 (x ++ bytes) ≡ x ++ take m bytes
+    by-test true e =
+        let less = ltb-true (length bytes) (8193 - k) e in
+        take_all 8193 (x ++ bytes) (omega (arith, length-append x bytes)) ∙ ap (λ (l : List ℕ). x ++ l) (sym (take_all m bytes (omega arith)))
+    by-test false e =
+        let more' = ltb-false (length bytes) (8193 - k) e in
+        let whole : 8193 ≡ length x + m = omega arith in
+        rw whole (take-append-add x bytes m)
+
+-- the line that `hold` leaves
+pub held-written : (line bytes : List ℕ) (n k e m : ℕ) (part : List ℕ) → length line ≡ 8193 → k ≡ min n 8193 → m ≡ min (length bytes) (8193 - k) → e ≡ k + m → part ≡ take m bytes
+    → take e (put_mid k (e - k) line part) ≡ held_after (take n line) bytes
+held-written line bytes n k e m part size first more end same =
+    let held : take k line ≡ take n line = taken-within line n k size first in
+    let short : length (take n line) ≡ k = rw (← held) (length-take-le k line (omega (arith, first))) in
+    let put : take e (put_mid k (e - k) line part) ≡ take k line ++ part =
+    take-put_mid k (e - k) line part e (omega (arith, ap length same, length-take m bytes, more, end)) (omega (arith, first)) in
+    put ∙ rw (held, same, held-take (take n line) bytes (omega (arith, short, first))) (sym (first-of (take n line) bytes k m short more (omega (arith, first))))
+
+-- bytes of which none is a line feed join the line, and bring no text
+quiet-before : (b : ℕ) (bs : List ℕ) (t : Bool) → eqb b 10 ≡ t → before_feed (b ∷ bs) ≡ suc (length bs) → (eqb b 10 ≡ false) × (before_feed bs ≡ length bs)
 unfolding before_feed
-before-next chunk i h no-feed = rw (drop-cons chunk i 0 h, ne_eqb (get_or chunk i 0) 10 no-feed)
+quiet-before b bs true e h = absurd (omega (arith, rw e at h))
+quiet-before b bs false e h = (e, omega (arith, rw e at h))
 
-before-feed : (chunk : List ℕ) (i : ℕ) → i < length chunk → get_or chunk i 0 ≡ 10 → before_feed (drop i chunk) ≡ 0
+pub fed-quiet : (s : State) (bs : List ℕ) → before_feed bs ≡ length bs → fed s bs ≡ record { place = s.place; held = held_after s.held bs }
+unfolding fed next held_after
+fed-quiet s [] h = refl
+fed-quiet s (b ∷ bs) h = let q = quiet-before b bs (eqb b 10) refl h in fed-quiet (next s b) bs q.1 ∙ rw q.0 refl
+
+pub text-quiet : (s : State) (bs : List ℕ) → before_feed bs ≡ length bs → fed_text s bs ≡ []
+unfolding fed_text text_of
+text-quiet s [] h = refl
+text-quiet s (b ∷ bs) h = let q = quiet-before b bs (eqb b 10) refl h in rw q.0 (text-quiet (next s b) bs q.1)
+
+-- the bytes before a last line feed
+pub before-last : (line rest : List ℕ) → length line ≤ before_feed (line ++ rest) → before_feed line ≡ length line
 unfolding before_feed
-before-feed chunk i h feed = rw (drop-cons chunk i 0 h, eq-eqb (get_or chunk i 0) 10 feed)
+before-last [] rest h = refl
+before-last (b ∷ bs) rest h = by-test (eqb b 10) refl h (before-last bs rest)
+  where
+    by-test : (t : Bool) → eqb b 10 ≡ t → suc (length bs) ≤ before_feed (b ∷ (bs ++ rest)) → (length bs ≤ before_feed (bs ++ rest) → before_feed bs ≡ length bs) → before_feed (b ∷ bs) ≡ suc (length bs)
+    by-test true e h ih = absurd (omega (arith, rw e at h))
+    by-test false e h ih = rw e (ap suc (ih (omega (arith, rw e at h))))
 
-before-end : (chunk : List ℕ) (i : ℕ) → length chunk ≤ i → before_feed (drop i chunk) ≡ 0
+-- bytes that do not end with a line feed
+feed-at : (bs : List ℕ) → before_feed bs < length bs → get_or bs (before_feed bs) 0 ≡ 10
 unfolding before_feed
-before-end chunk i h = rw (drop_of_length-le chunk h)
+feed-at [] h = absurd (omega arith)
+feed-at (b ∷ bs) h = by-test (eqb b 10) refl h (feed-at bs)
+  where
+    by-test : (t : Bool) → eqb b 10 ≡ t → before_feed (b ∷ bs) < suc (length bs) → (before_feed bs < length bs → get_or bs (before_feed bs) 0 ≡ 10) → get_or (b ∷ bs) (before_feed (b ∷ bs)) 0 ≡ 10
+    by-test true e h ih = rw e (eqb-true b 10 e)
+    by-test false e h ih = rw e (ih (omega (arith, rw e at h)))
 
--- what is known after i bytes of a chunk
-pub record Holding (held chunk line : List ℕ) (n i : ℕ) : Type 0 where
-  pub within : i ≤ length chunk
-  pub small : n ≤ 8193
-  pub same : take n line ≡ held_after held (take i chunk)
-  pub first : before_feed chunk ≡ i + before_feed (drop i chunk)
-
-pub holding-none : (chunk line : List ℕ) (n : ℕ) → n ≤ 8193 → Holding (take n line) chunk line n 0
-unfolding held_after
-holding-none chunk line n h = record { within = omega arith; small = h; same = refl; first = omega arith }
-
-module _ {held chunk line : List ℕ} {n i : ℕ} (H : Holding held chunk line n i) where
-  pub holding-more : (line' : List ℕ) (n' : ℕ) → i < length chunk → (get_or chunk i 0 ≡ 10 → ⊥) → n' ≤ 8193 → take n' line' ≡ hold (take n line) (get_or chunk i 0)
-      → Holding held chunk line' n' (i + 1)
-  holding-more line' n' h no-feed small e =
-      record {
-        within = omega arith;
-        small = small;
-        same =
-            e ∙ ap (λ (l : List ℕ). hold l (get_or chunk i 0)) H.same
-            ∙ sym (rw (add-one i, take-suc chunk i 0 h) (after_more held (take i chunk) (get_or chunk i 0)));
-        first = let s = before-next chunk i h no-feed in rw (add-one i) (omega (arith, H.first, s));
-      }
-
-  pub holding-feed : i < length chunk → get_or chunk i 0 ≡ 10 → i ≡ before_feed chunk
-  holding-feed h feed = omega (arith, H.first, before-feed chunk i h feed)
-
-  pub holding-end : length chunk ≤ i → i ≡ before_feed chunk
-  holding-end h = omega (arith, H.first, before-end chunk i h)
-
--- bytes before the first line feed bring no text, and join the line
-fed-bytes : (s : State) (b : ℕ) (bs : List ℕ) (t : Bool) → eqb b 10 ≡ t
-    → ((s : State) → fed s (take (before_feed bs) bs) ≡ record { place = s.place; held = held_after s.held (take (before_feed bs) bs) })
-    → fed s (take (before_feed (b ∷ bs)) (b ∷ bs)) ≡ record { place = s.place; held = held_after s.held (take (before_feed (b ∷ bs)) (b ∷ bs)) }
-unfolding fed next held_after before_feed
-fed-bytes s b bs true e ih = rw e
-fed-bytes s b bs false e ih = rw e (ih (next s b) ∙ rw e)
-
-pub fed-before : (s : State) (bs : List ℕ) → fed s (take (before_feed bs) bs) ≡ record { place = s.place; held = held_after s.held (take (before_feed bs) bs) }
-unfolding fed held_after before_feed
-fed-before s [] = refl
-fed-before s (b ∷ bs) = fed-bytes s b bs (eqb b 10) refl (λ q. fed-before q bs)
-
-text-bytes : (s : State) (b : ℕ) (bs : List ℕ) (t : Bool) → eqb b 10 ≡ t → ((s : State) → fed_text s (take (before_feed bs) bs) ≡ [])
-    → fed_text s (take (before_feed (b ∷ bs)) (b ∷ bs)) ≡ []
-unfolding fed_text text_of next before_feed
-text-bytes s b bs true e ih = rw e
-text-bytes s b bs false e ih = rw (e, e) (rw e at (ih (next s b)))
-
-pub text-before : (s : State) (bs : List ℕ) → fed_text s (take (before_feed bs) bs) ≡ []
-unfolding fed_text before_feed
-text-before s [] = refl
-text-before s (b ∷ bs) = text-bytes s b bs (eqb b 10) refl (λ q. text-before q bs)
-
-before-within-byte : (b : ℕ) (bs : List ℕ) (t : Bool) → eqb b 10 ≡ t → before_feed bs ≤ length bs → before_feed (b ∷ bs) ≤ suc (length bs)
-unfolding before_feed
-before-within-byte b bs true e h = rw e (omega arith)
-before-within-byte b bs false e h = rw e (omega arith)
-
-pub before-within : (bs : List ℕ) → before_feed bs ≤ length bs
+before-within : (bs : List ℕ) → before_feed bs ≤ length bs
 unfolding before_feed
 before-within [] = omega arith
-before-within (b ∷ bs) = before-within-byte b bs (eqb b 10) refl (before-within bs)
+before-within (b ∷ bs) = by-test (eqb b 10) refl (before-within bs)
+  where
+    by-test : (t : Bool) → eqb b 10 ≡ t → before_feed bs ≤ length bs → before_feed (b ∷ bs) ≤ suc (length bs)
+    by-test true e h = rw e (omega arith)
+    by-test false e h = rw e (omega arith)
+
+pub before-all : (bs : List ℕ) → length bs ≤ before_feed bs + 1 → (0 < length bs → get_or bs (length bs - 1) 0 ≡ 10 → ⊥) → before_feed bs ≡ length bs
+before-all bs h other = by-test (ltb (before_feed bs) (length bs)) refl
+  where
+    by-test : (t : Bool) → ltb (before_feed bs) (length bs) ≡ t → before_feed bs ≡ length bs
+    by-test true e =
+        let less = ltb-true (before_feed bs) (length bs) e in
+        let last : before_feed bs ≡ length bs - 1 = omega arith in
+        absurd (other (omega arith) (rw (← last) (feed-at bs less)))
+    by-test false e = let more = ltb-false (before_feed bs) (length bs) e in omega (arith, before-within bs)
+
+-- no line feed before place n
+pub before-from : (bs : List ℕ) (n : ℕ) → n ≤ length bs → ((k : ℕ) → k < n → get_or bs k 0 ≡ 10 → ⊥) → n ≤ before_feed bs
+before-from bs n h none = by-test (ltb (before_feed bs) n) refl
+  where
+    by-test : (t : Bool) → ltb (before_feed bs) n ≡ t → n ≤ before_feed bs
+    by-test true e = let less = ltb-true (before_feed bs) n e in absurd (none (before_feed bs) less (feed-at bs (omega arith)))
+    by-test false e = ltb-false (before_feed bs) n e

@@ -1,13 +1,12 @@
--- `Theorem` has the claim about chunks: the whole output is the same for every way to cut the input. `LongLines` is about a line of
--- which only the first 8,193 bytes are kept, `Chunks` about feeding one chunk after the other, `Texts` about texts written,
--- `Numbers` about line numbers, which do not run out.
-pub mod LongLines
+-- Laws of a line's call and its text, of the bytes that are held, of chunks and of the end of the input; how an input is cut does not change
+-- the output; and the lines are numbered by their places.
+pub mod Calls
 pub mod Chunks
+pub mod Texts
+pub mod LongLines
 pub mod Theorem
 pub mod Numbers
-pub mod Texts
 pub mod Holding
-pub mod Calls
-pub mod Ends
+pub mod Pieces
 pub mod Feeding
 pub mod Runs

@@ -8,7 +8,7 @@ use lib.Dec.{ltb}
 use lib.ListN.{length, take, length-append}
 use lib.Seq.{take_all, take-append-le, length-take-le}
 use borrow.Author.Tests.{ltb-true, ltb-false, lt-leb}
-use Rattle.frame_line.specs.Line.{is_frame_line}
+use Rattle.frame_line.specs.Line.{is_frame_line, line_of}
 use Rattle.session.specs.Output.{Place, line_call, after}
 use Rattle.session.specs.Feeding.{hold}
 
@@ -19,8 +19,8 @@ too_long line h = rw (lt-leb (length line) 8192 h)
 
 module _ (p : Place) where
   call_same : (a b : List ℕ) → is_frame_line a ≡ false → is_frame_line b ≡ false → line_call p a ≡ line_call p b
-  unfolding line_call
-  call_same a b e f = rw (e, f)
+  unfolding line_call line_of
+  call_same a b e f = rw (e, f) refl
 
   call-cut : (line : List ℕ) (t : Bool) → ltb (length line) 8193 ≡ t → line_call p (take 8193 line) ≡ line_call p line
   call-cut line true e = rw (take_all 8193 line (let h = ltb-true (length line) 8193 e in omega arith))

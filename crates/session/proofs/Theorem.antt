@@ -7,13 +7,13 @@ use lib.Dec.{eqb}
 use native.Mathlib.Omega.{arith}
 use lib.ListN.{length, take, length-take}
 use borrow.Author.Tests.{ne_eqb}
-use Rattle.content.specs.declared.Answer.{Answer}
 use Rattle.frame_call.specs.Call.{Outcome}
 use Rattle.decimal.specs.Parts.{parted, with_first}
 use Rattle.session.specs.Output.{Place, start, line_call, after, line_text, ended, lines, answers, header, output}
 use Rattle.session.specs.Feeding.{State, next, text_of, fed, fed_text, last_text, chunks_text, fresh}
 use Rattle.session.proofs.LongLines.{call-held, after-held, hold-held}
 use Rattle.session.proofs.Chunks.{chunks-text}
+use Rattle.content.specs.State.{Answer}
 
 -- the bytes of a line before the first of these parts
 joined : List ℕ → List (List ℕ) → List (List ℕ)

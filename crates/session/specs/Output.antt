@@ -1,16 +1,15 @@
 -- The session program (RULES 11): from the bytes of the whole input to the bytes of the whole output.
-use Rattle.std.specs.Prelude.{cond, List, [], ◌∷◌, ◌++◌, ℕ, suc, ltb, pos, replicate}
-use Rattle.timestamp.specs.declared.MaybeTimestamp.{MaybeTimestamp}
-use Rattle.timestamp.specs.declared.MaybeTimestamp.TheVariants.{None, At}
+use Rattle.std.specs.Prelude.{cond, List, [], ◌∷◌, ◌++◌, ℕ, suc, ltb, pos, replicate, None, Option, Some}
 use Rattle.content.specs.declared.Detector.{Detector}
-use Rattle.content.specs.declared.Answer.{Answer}
 use Rattle.content.specs.Options.{defaults}
-use Rattle.content.specs.State.{fresh, refused_answer}
+use Rattle.content.specs.State.{Answer, fresh, refused_answer}
 use Rattle.frame_call.specs.Call.{Outcome, luma, memory}
 use Rattle.content.specs.Step.{called}
 use Rattle.decimal.specs.Parts.{parted}
 use Rattle.decimal.specs.Writing.{decimal, stamp_text}
-use Rattle.frame_line.specs.Line.{is_frame_line, fields, line_of, luma_of}
+use Rattle.frame_line.specs.declared.FrameLine.{FrameLine}
+use Rattle.frame_line.specs.Line.{fields, line_of, luma_of}
+use Rattle.timestamp.specs.declared.Timestamp.{Timestamp}
 
 -- The parts between line feeds (RULES 11.1): where nothing follows the last line feed there is no further line, so an empty input has none.
 unfoldable pub ended : List (List ℕ) → List (List ℕ)
@@ -34,14 +33,16 @@ pub record Place : Type 0 where
 abbrev pub start : Place
 start = record { detector = fresh defaults; store = replicate 4096 0; number = 0 }
 
+-- the luma call of a frame with these values, whose stride is its width, or 16 where there is no frame (RULES 11.3, 11.5)
+abbrev pub call_of : Place → (values : List ℕ) → Option FrameLine → Outcome Answer
+call_of p values None = record { answer = refused_answer p.detector 16; store = p.store }
+call_of p values (Some f) =
+    called p.detector (luma values f.width f.height f.width f.stamp (memory p.store (replicate 9216 0) (replicate 1024 (pos 0))))
+
 -- What a line brings: the luma call of its frame, whose stride is its width, or 16 (RULES 11.3, 11.5). 9,216 bytes of scratch and 1,024
 -- magnitudes are enough for every frame of at most 1,024 pixels whose sides the call takes.
 unfoldable pub line_call : Place → List ℕ → Outcome Answer
-line_call p line =
-    cond
-    (is_frame_line line)
-    (called p.detector (luma (luma_of (fields line)) (line_of line).width (line_of line).height (line_of line).width (line_of line).stamp (memory p.store (replicate 9216 0) (replicate 1024 (pos 0)))))
-    (record { answer = refused_answer p.detector 16; store = p.store })
+line_call p line = call_of p (luma_of (fields line)) (line_of line)
 
 -- Each line's number is one more than that of the line before (RULES 11.6). That the last number of 64 bits stays is a decision
 -- (docs/DECISIONS.md); no input that a machine holds meets it (proofs/Numbers.antt).
@@ -54,9 +55,9 @@ after p line =
     record { detector = (line_call p line).answer.detector; store = (line_call p line).store; number = next_number p.number }
 
 -- the cut, or `-` where there is none (RULES 11.6)
-abbrev pub cut_text : MaybeTimestamp → List ℕ
+abbrev pub cut_text : Option Timestamp → List ℕ
 cut_text None = 45 ∷ []
-cut_text (At t) = stamp_text t.micros
+cut_text (Some t) = stamp_text t.micros
 
 -- a line of the output (RULES 11.6): number, answer, cut or `-`, and a line feed
 unfoldable pub line_text : ℕ → Answer → List ℕ

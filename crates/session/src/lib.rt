@@ -1,24 +1,29 @@
 // The session program on slices (RULES 11): bytes of frame lines in, bytes of answers out. The input comes in chunks of any sizes; a
-// session, the line, the luma values and the store are handed back as they were left.
+// session owns its memory, and is left by each call as the next one takes it.
+// Kept, point 5: each function asks for its own room, of 64, 21 or 0 bytes, which a ghost field could not say.
+// Kept, point 6: no heap: lent memory, and how much of it is text.
 #![tactic(auto)]
 
-ghost use Rattle.std.specs.Prelude.{◌≡◌, true, [], ◌∷◌, ◌++◌, ◌+◌, ◌*◌, ◌≤◌, ◌<◌, length, take, replicate};
-ghost use Rattle.decimal.specs.Placed.{placed};
+ghost use Rattle.std.specs.Prelude.{◌≡◌, [], ◌∷◌, ◌++◌, ◌+◌, ◌-◌, ◌*◌, ◌≤◌, ◌<◌, length, take};
+ghost use Rattle.decimal.specs.Placed.{HasRoom, Wrote};
 ghost use Rattle.decimal.specs.Writing.{decimal};
-ghost use Rattle.frame_line.specs.Line.{is_frame_line, fields, line_of, luma_of};
+ghost use Rattle.detector.specs.Answers.{answer_in};
 ghost use Rattle.session.specs.Output.{line_call, after, next_number, cut_text, line_text, header};
-ghost use Rattle.session.specs.Feeding.{hold, held_after, before_feed, chunk_end};
-ghost use Rattle.session.specs.Sessions.{new_session, place_of, state_of, frame_call_of, held_length};
-ghost use Rattle.session.specs.Promises.{Ends, Feeds, Filled, Finishes, Runs, IsOutput};
+ghost use Rattle.session.specs.Feeding.{fed, fed_text, last_text, before_feed, chunk_end};
+ghost use Rattle.session.specs.Sessions.{new_session, place_of, state_of, frame_call_of, last_state};
+ghost use Rattle.session.specs.Promises.{Calls, Ends, Holds, Takes, Feeds, Filled, Finishes, IsOutput};
 
-use content::{Answer, Detector};
+use content::Detector;
+use decimal::Writer;
+use detector::Step;
 use frame_line::FrameLine;
-use timestamp::MaybeTimestamp;
+use refusal::{Refusal, Refused};
+use timestamp::Timestamp;
 
 // The bytes that are held of a line: one more than a frame line may have, so that a longer one is told.
 pub const HELD: usize = 8193;
 
-// The most pixels of a line's frame: so many luma values and magnitudes are lent.
+// The most pixels of a line's frame: so many luma values and magnitudes there are.
 pub const PIXELS: usize = 1024;
 
 // The bytes of the store and of the scratch, enough for each frame of a line that 1 does not refuse.
@@ -32,47 +37,29 @@ pub const HEADER: usize = 17;
 // The room that is asked for a line's text, which has at most 53 bytes.
 pub const ROOM: usize = 64;
 
-// What one chunk hands to the next: the detector, the number of the current line, and how many bytes of it the lent line holds.
-#[derive(Clone, Copy)]
+// What the call of a line brings.
+type Answer = Result<Step<Detector>, Refused<Detector>>;
+
+// A session between two chunks: the detector, the number of the current line, how many bytes of it `line` holds, and the memory. Any bytes
+// of `line` from there on are right, and so is any content of the luma values, the scratch and the magnitudes.
+// Kept: no heap: the line's bytes, and how many of them are held.
+#[derive(Clone, Copy, Debug, PartialEq)]
 pub struct Session {
     pub detector: Detector,
     pub number: u64,
     pub length: usize,
+    pub line: [u8; HELD],
+    pub luma: [u8; PIXELS],
+    pub store: [u8; STORE],
+    pub scratch: [u8; SCRATCH],
+    pub magnitudes: [i32; PIXELS],
 }
 
-// What feeding brings: the session, how many bytes of the chunk were taken, and how many bytes of text were written.
-#[derive(Clone, Copy)]
+// What feeding brings: how many bytes of the chunk were taken, and how many bytes of text were written.
+#[derive(Clone, Copy, Debug, PartialEq, Eq)]
 pub struct Fed {
-    pub session: Session,
     pub taken: usize,
     pub written: usize,
-}
-
-// What a whole session brings: whether `out` had room for the output, and the output's length, 0 where there was no room.
-#[derive(Clone, Copy)]
-pub struct Whole {
-    pub ok: bool,
-    pub written: usize,
-}
-
-// The bytes that the line holds, and the place in the chunk where its line ends.
-#[derive(Clone, Copy)]
-struct Held {
-    length: usize,
-    at: usize,
-}
-
-// A session before the first byte, to be lent a store of zeros; the line may hold anything.
-pub fn new() -> Session
-    ensures { result ≡ new_session }
-{
-    let d = content::try_new(content::Options::new());
-    let detector = d.detector;
-    Session {
-        detector: detector,
-        number: 0,
-        length: 0,
-    }
 }
 
 // `frame,answer,cut` and a line feed.
@@ -82,479 +69,233 @@ pub fn header() -> [u8; HEADER]
     *b"frame,answer,cut\n"
 }
 
-// The luma call of a frame line whose values are the first of `luma`. Any content of the scratch and of the magnitudes is right, before
-// and after.
-fn call_frame(
-    s: Session,
-    f: FrameLine,
-    luma: &[u8],
-    store: &mut [u8; STORE],
-    scratch: &mut [u8; SCRATCH],
-    magnitudes: &mut [i32; PIXELS],
-) -> Answer
-    requires { (f.width * f.height ≤ 1024) × (length luma.now ≡ 1024) }
-    ensures value { result ≡ (frame_call_of s f luma.now store.old).answer }
-    ensures store_after { store.new ≡ (frame_call_of s f luma.now store.old).store }
-{
-    let d = s.detector;
-    let stamp = f.stamp;
-    let n = (f.width as usize) * (f.height as usize);
-    content_frames::process_luma(
-        d,
-        &luma[..n],
-        f.width,
-        f.height,
-        f.width,
-        stamp,
-        store,
-        scratch,
-        magnitudes,
-    )
-}
-
-// What a line brings. Any content of the luma values, the scratch and the magnitudes is right, before and after.
-fn call_line(
-    s: Session,
-    line: &[u8],
-    luma: &mut [u8; PIXELS],
-    store: &mut [u8; STORE],
-    scratch: &mut [u8; SCRATCH],
-    magnitudes: &mut [i32; PIXELS],
-) -> Answer
-    ensures value { result ≡ (line_call (place_of s store.old) line.now).answer }
-    ensures store_after { store.new ≡ (line_call (place_of s store.old) line.now).store }
-{
-    let f = frame_line::read_line(line, luma);
-    if f.is_frame {
-        return call_frame(s, f, luma, store, scratch, magnitudes);
-    }
-    let d = s.detector;
-    content::without_score(d, 16)
-}
-
 // The cut or `-`.
-fn put_cut(out: &mut [u8], at: usize, cut: MaybeTimestamp) -> usize
-    requires { at + 21 ≤ length out.old }
-    ensures { (out.new ≡ placed out.old at (cut_text cut)) × (result ≡ at + length (cut_text cut)) }
+fn put_cut(text: &mut Writer<'_>, cut: Option<Timestamp>)
+    requires { HasRoom text.old 21 }
+    ensures { Wrote text.old (cut_text cut) text.new }
 {
     match cut {
-        MaybeTimestamp::None => decimal::put_byte(out, at, b'-'),
-        MaybeTimestamp::At(t) => decimal::put_stamp(out, at, t),
+        None => text.put_byte(b'-'),
+        Some(t) => text.put_stamp(t),
     }
 }
 
 // A number and a comma.
-fn put_field(out: &mut [u8], at: usize, n: u64) -> usize
-    requires { at + 21 ≤ length out.old }
-    ensures { (out.new ≡ placed out.old at (decimal n ++ (44 ∷ []))) × (result ≡ at + length (decimal n ++ (44 ∷ []))) }
+// Kept: beside `put_cell` of `marks`; a method of the writer for both, with a contract of its own, would not be shorter than these two lines.
+fn put_field(text: &mut Writer<'_>, n: u64)
+    requires { HasRoom text.old 21 }
+    ensures { Wrote text.old (decimal n ++ (44 ∷ [])) text.new }
 {
-    let e = decimal::put_number(out, at, n);
-    decimal::put_byte(out, e, b',')
+    text.put_number(n);
+    text.put_byte(b',');
 }
 
 // The text of a line: number, answer, cut or `-`.
-fn put_line(out: &mut [u8], at: usize, number: u64, a: Answer) -> usize
-    requires { at + 64 ≤ length out.old }
-    ensures { (out.new ≡ placed out.old at (line_text number a)) × (result ≡ at + length (line_text number a)) }
+#[tactic(auto, using(crate::proofs::Texts::field_length, crate::proofs::Texts::cut_length))]
+fn put_line(text: &mut Writer<'_>, number: u64, answer: Answer)
+    requires { HasRoom text.old 64 }
+    ensures { Wrote text.old (line_text number (answer_in answer)) text.new }
 {
-    let cut = a.cut;
-    let p = put_field(out, at, number);
-    let q = put_field(out, p, a.number as u64);
-    let e = put_cut(out, q, cut);
-    decimal::put_byte(out, e, b'\n')
-}
-
-// The next line's number; the last number of 64 bits stays, which no input that a machine holds meets (proofs/Numbers.antt).
-fn next_number(n: u64) -> u64
-    ensures { result ≡ next_number n }
-{
-    if n < u64::MAX {
-        return n + 1;
-    }
-    n
-}
-
-// The end of a line, of which the first `held` bytes of `line` are held: its text goes to `out` at place `at`.
-fn end_line(
-    s: Session,
-    line: &[u8],
-    held: usize,
-    luma: &mut [u8; PIXELS],
-    store: &mut [u8; STORE],
-    scratch: &mut [u8; SCRATCH],
-    magnitudes: &mut [i32; PIXELS],
-    out: &mut [u8],
-    at: usize,
-) -> Fed
-    requires { (held ≤ length line.now) × (at + 64 ≤ length out.old) }
-    ensures { Ends (place_of s store.old) (take held line.now) out.old at (place_of result.session store.new) out.new result.session.length result.written }
-{
-    let a = call_line(s, &line[..held], luma, store, scratch, magnitudes);
-    let e = put_line(out, at, s.number, a);
-    let d = a.detector;
-    let n = next_number(s.number);
-    let next = Session {
-        detector: d,
-        number: n,
-        length: 0,
+    let (code, cut) = match answer {
+        Ok(step) => (0, step.cut),
+        Err(refused) => (refused.refusal.number(), None),
     };
-    Fed {
-        session: next,
-        taken: 0,
-        written: e - at,
-    }
-}
-
-// One byte more of a line: of a line that is too long only the first 8,193 bytes are held. The answer is how many are held; any bytes of
-// `line` from there on are right.
-fn keep(line: &mut [u8], n: usize, b: u8) -> usize
-    requires { (length line.old ≡ 8193) × (n ≤ 8193) }
-    ensures { (result ≤ 8193) × (take result line.new ≡ hold (take n line.old) b) }
-{
-    if n < HELD {
-        line[n] = b;
-        return n + 1;
-    }
-    n
-}
-
-// The bytes of the chunk up to its first line feed, or all of them, join the line. Any bytes of `line` from the answer's `length` on are
-// right.
-fn hold_bytes(line: &mut [u8], held: usize, chunk: &[u8]) -> Held
-    requires { (length line.old ≡ 8193) × (held ≤ 8193) }
-    ensures { (result.length ≤ 8193) × (result.at ≡ before_feed chunk.now) × (take result.length line.new ≡ held_after (take held line.old) (take result.at chunk.now)) }
-{
-    let mut n = held;
-    let mut i = 0;
-    while i < chunk.len() {
-        let b = chunk[i];
-        if b == b'\n' {
-            return Held { length: n, at: i };
-        }
-        n = keep(line, n, b);
-        i += 1;
-    }
-    Held { length: n, at: i }
-}
-
-// The length that any record stands for.
-fn held_length(told: usize) -> usize
-    ensures { result ≡ held_length told }
-{
-    if told < HELD {
-        return told;
-    }
-    HELD
-}
-
-// The bytes of the chunk up to its first line feed and that, or all of them.
-fn feed_line(
-    s: Session,
-    chunk: &[u8],
-    line: &mut [u8],
-    luma: &mut [u8; PIXELS],
-    store: &mut [u8; STORE],
-    scratch: &mut [u8; SCRATCH],
-    magnitudes: &mut [i32; PIXELS],
-    out: &mut [u8],
-    at: usize,
-) -> Fed
-    requires { (length line.old ≡ 8193) × (0 < length chunk.now) × (at + 64 ≤ length out.old) }
-    ensures { (0 < result.taken) × (result.written ≤ 64) × Feeds (state_of s line.old store.old) chunk.now out.old at (state_of result.session line.new store.new) out.new result.taken result.written }
-{
-    let detector = s.detector;
-    let h = hold_bytes(line, held_length(s.length), chunk);
-    let n = h.length;
-    let e = h.at;
-    let held = Session {
-        detector: detector,
-        number: s.number,
-        length: n,
-    };
-    if e < chunk.len() {
-        let f = end_line(held, line, n, luma, store, scratch, magnitudes, out, at);
-        let next = f.session;
-        return Fed {
-            session: next,
-            taken: e + 1,
-            written: f.written,
-        };
-    }
-    Fed {
-        session: held,
-        taken: e,
-        written: 0,
-    }
-}
-
-// Takes the chunk, or as much of it as `out` has room for the text of, from place `at` on.
-fn feed_at(
-    s: Session,
-    chunk: &[u8],
-    line: &mut [u8; HELD],
-    luma: &mut [u8; PIXELS],
-    store: &mut [u8; STORE],
-    scratch: &mut [u8; SCRATCH],
-    magnitudes: &mut [i32; PIXELS],
-    out: &mut [u8],
-    at: usize,
-) -> Fed
-    requires { at ≤ length out.old }
-    ensures feeds { Feeds (state_of s line.old store.old) chunk.now out.old at (state_of result.session line.new store.new) out.new result.taken result.written }
-    ensures filled { Filled chunk.now out.old at result.taken result.written }
-{
-    let mut state = s;
-    let mut a = 0;
-    let mut w = 0;
-    while a < chunk.len() {
-        if out.len() - (at + w) < ROOM {
-            return Fed {
-                session: state,
-                taken: a,
-                written: w,
-            };
-        }
-        let f = feed_line(
-            state,
-            &chunk[a..],
-            line,
-            luma,
-            store,
-            scratch,
-            magnitudes,
-            out,
-            at + w,
-        );
-        let next = f.session;
-        state = next;
-        a += f.taken;
-        w += f.written;
-    }
-    Fed {
-        session: state,
-        taken: a,
-        written: w,
-    }
-}
-
-// Takes the chunk, or as much of it as `out` has room for the text of, 64 bytes for a line: the caller hands in the rest again. Bytes are
-// left only where fewer than 64 bytes of `out` are; how many more are taken then is left open, and of an `out` under 64 bytes it may be
-// that nothing is taken. Any content of the luma values, the scratch and the magnitudes is right, before and after, and so are any bytes
-// of `line` from the session's `length` on.
-pub fn feed(
-    s: Session,
-    chunk: &[u8],
-    line: &mut [u8; HELD],
-    luma: &mut [u8; PIXELS],
-    store: &mut [u8; STORE],
-    scratch: &mut [u8; SCRATCH],
-    magnitudes: &mut [i32; PIXELS],
-    out: &mut [u8],
-) -> Fed
-    ensures feeds { Feeds (state_of s line.old store.old) chunk.now out.old 0 (state_of result.session line.new store.new) out.new result.taken result.written }
-    ensures filled { Filled chunk.now out.old 0 result.taken result.written }
-{
-    feed_at(s, chunk, line, luma, store, scratch, magnitudes, out, 0)
-}
-
-// The end of the input: the text of the line that no line feed ended, if there is one, to `out` at place `at`.
-fn finish_at(
-    s: Session,
-    line: &[u8],
-    luma: &mut [u8; PIXELS],
-    store: &mut [u8; STORE],
-    scratch: &mut [u8; SCRATCH],
-    magnitudes: &mut [i32; PIXELS],
-    out: &mut [u8],
-    at: usize,
-) -> Fed
-    requires { (length line.now ≡ 8193) × (at + 64 ≤ length out.old) }
-    ensures { Finishes (state_of s line.now store.old) out.old at (state_of result.session line.now store.new) out.new result.taken result.written }
-{
-    let n = held_length(s.length);
-    if n == 0 {
-        return Fed {
-            session: s,
-            taken: 0,
-            written: 0,
-        };
-    }
-    let f = end_line(s, line, n, luma, store, scratch, magnitudes, out, at);
-    let next = f.session;
-    Fed {
-        session: next,
-        taken: 0,
-        written: f.written,
-    }
-}
-
-// The end of the input: the text of the line that no line feed ended, if there is one. Any content of the luma values, the scratch and the
-// magnitudes is right, before and after, and so are any bytes of `line` from the session's `length` on.
-pub fn finish(
-    s: Session,
-    line: &[u8; HELD],
-    luma: &mut [u8; PIXELS],
-    store: &mut [u8; STORE],
-    scratch: &mut [u8; SCRATCH],
-    magnitudes: &mut [i32; PIXELS],
-    out: &mut [u8; ROOM],
-) -> Fed
-    ensures { Finishes (state_of s line.now store.old) out.old 0 (state_of result.session line.now store.new) out.new result.taken result.written }
-{
-    finish_at(s, line, luma, store, scratch, magnitudes, out, 0)
+    put_field(text, number);
+    put_field(text, u64::from(code));
+    put_cut(text, cut);
+    text.put_byte(b'\n');
 }
 
 // The end of the chunk of `size` bytes that starts at place a of n bytes; of a size of 0, their end.
+#[tactic(auto, unfolding(crate::specs::Feeding::chunk_end))]
 fn chunk_end(a: usize, size: usize, n: usize) -> usize
     requires { a < n }
     ensures value { result ≡ chunk_end a size n }
     ensures lower_bound { (a < result) × (result ≤ n) }
 {
     if size == 0 {
-        return n;
+        n
+    } else {
+        n.min(a.saturating_add(size))
     }
-    if size < n - a {
-        return a + size;
-    }
-    n
 }
 
-// The input in chunks of `size` bytes, the last one shorter: `feed_at` promises the same of one chunk.
-fn feed_chunks(
-    s: Session,
-    input: &[u8],
-    size: usize,
-    line: &mut [u8; HELD],
-    luma: &mut [u8; PIXELS],
-    store: &mut [u8; STORE],
-    scratch: &mut [u8; SCRATCH],
-    magnitudes: &mut [i32; PIXELS],
-    out: &mut [u8],
-    at: usize,
-) -> Fed
-    requires { at ≤ length out.old }
-    ensures feeds { Feeds (state_of s line.old store.old) input.now out.old at (state_of result.session line.new store.new) out.new result.taken result.written }
-    ensures filled { Filled input.now out.old at result.taken result.written }
-{
-    let mut state = s;
-    let mut a = 0;
-    let mut w = 0;
-    while a < input.len() {
-        let e = chunk_end(a, size, input.len());
-        let f = feed_at(
-            state,
-            &input[a..e],
-            line,
-            luma,
-            store,
-            scratch,
-            magnitudes,
-            out,
-            at + w,
-        );
-        let next = f.session;
-        state = next;
-        w += f.written;
-        if f.taken < e - a {
-            return Fed {
-                session: state,
-                taken: a + f.taken,
-                written: w,
-            };
+impl Session {
+    // A session before the first byte: the store is zeros, and the rest of the memory could hold anything.
+    pub fn new() -> Session
+        ensures { result ≡ new_session }
+    {
+        Session {
+            detector: detector::state_of(content::try_new(content::Options::new())),
+            number: 0,
+            length: 0,
+            line: [0; HELD],
+            luma: [0; PIXELS],
+            store: [0; STORE],
+            scratch: [0; SCRATCH],
+            magnitudes: [0; PIXELS],
         }
-        a = e;
     }
-    Fed {
-        session: state,
-        taken: a,
-        written: w,
+
+    // The luma call of a frame line whose values are the first of `luma`.
+    fn call_frame(&mut self, f: FrameLine) -> Answer
+        requires { f.width * f.height ≤ 1024 }
+        ensures { Calls self.old (frame_call_of self.old f) (answer_in result) self.new }
+    {
+        let n = f.width as usize * f.height as usize;
+        detector::process_luma(
+            self.detector,
+            &self.luma[..n],
+            f.width,
+            f.height,
+            f.width,
+            f.stamp,
+            &mut self.store,
+            &mut self.scratch,
+            &mut self.magnitudes,
+        )
+    }
+
+    // What the line brings that is held.
+    fn call_line(&mut self) -> Answer
+        ensures { Calls self.old (line_call (place_of self.old) (take self.old.length self.old.line)) (answer_in result) self.new }
+    {
+        let held = self.length.min(HELD);
+        match frame_line::read_line(&self.line[..held], &mut self.luma) {
+            Some(f) => self.call_frame(f),
+            None => Err(Refused {
+                refusal: Refusal::NotAFrameLine,
+                state: self.detector,
+            }),
+        }
+    }
+
+    // The end of the line that is held.
+    #[tactic(auto, using(crate::proofs::Feeding::line_ends))]
+    fn end_line(&mut self, text: &mut Writer<'_>)
+        requires { HasRoom text.old 64 }
+        ensures { Ends self.old text.old self.new text.new }
+    {
+        let answer = self.call_line();
+        put_line(text, self.number, answer);
+        self.detector = detector::state_after(answer);
+        // The last number of 64 bits stays, which no input that a machine holds meets (proofs/Numbers.antt).
+        self.number = self.number.saturating_add(1);
+        self.length = 0;
+    }
+
+    // More bytes of the line: of a line that is too long only the first 8,193 are held.
+    fn hold(&mut self, bytes: &[u8])
+        ensures { Holds self.old bytes.now self.new }
+    {
+        let held = self.length.min(HELD);
+        let end = held + bytes.len().min(HELD - held);
+        self.line[held..end].copy_from_slice(&bytes[..end - held]);
+        self.length = end;
+    }
+
+    // Bytes with no line feed but the last one, if that is one.
+    fn feed_line(&mut self, bytes: &[u8], text: &mut Writer<'_>)
+        requires { (length bytes.now ≤ before_feed bytes.now + 1) × HasRoom text.old 64 }
+        ensures state { state_of self.new ≡ fed (state_of self.old) bytes.now }
+        ensures text { Wrote text.old (fed_text (state_of self.old) bytes.now) text.new }
+    {
+        match bytes.strip_suffix(b"\n") {
+            Some(line) => {
+                self.hold(line);
+                self.end_line(text);
+            }
+            None => self.hold(bytes),
+        }
+    }
+
+    // Takes the chunk, or as much of it as there is room for the text of.
+    fn feed_to(&mut self, chunk: &[u8], text: &mut Writer<'_>) -> usize
+        requires { HasRoom text.old 0 }
+        ensures { Takes (state_of self.old) chunk.now text.old (state_of self.new) text.new result }
+    {
+        let mut taken = 0;
+        for bytes in chunk.split_inclusive(|b| *b == b'\n') {
+            if text.out.len() - text.at < ROOM {
+                return taken;
+            }
+            self.feed_line(bytes, text);
+            taken += bytes.len();
+        }
+        taken
+    }
+
+    // Takes the chunk, or as much of it as `out` has room for the text of, 64 bytes for a line: the caller hands in the rest again. Bytes are
+    // left only where fewer than 64 bytes of `out` are; how many more are taken then is left open, and of an `out` under 64 bytes it may be
+    // that nothing is taken.
+    pub fn feed(&mut self, chunk: &[u8], out: &mut [u8]) -> Fed
+        ensures feeds { Feeds (state_of self.old) chunk.now out.old 0 (state_of self.new) out.new result.taken result.written }
+        ensures filled { Filled chunk.now out.old 0 result.taken result.written }
+    {
+        let mut text = Writer { out, at: 0 };
+        let taken = self.feed_to(chunk, &mut text);
+        Fed {
+            taken,
+            written: text.at,
+        }
+    }
+
+    // The end of the input: the text of the line that no line feed ended, if there is one.
+    fn finish_to(&mut self, text: &mut Writer<'_>)
+        requires { HasRoom text.old 64 }
+        ensures state { state_of self.new ≡ last_state (state_of self.old) }
+        ensures text { Wrote text.old (last_text (state_of self.old)) text.new }
+        ensures line_stays { self.new.line ≡ self.old.line }
+    {
+        if self.length > 0 {
+            self.end_line(text);
+        }
+    }
+
+    // The end of the input: the text of the line that no line feed ended, if there is one, and how many bytes of it were written.
+    pub fn finish(&mut self, out: &mut [u8; ROOM]) -> usize
+        ensures line_stays { self.new.line ≡ self.old.line }
+        ensures finishes { Finishes (state_of self.old) out.old 0 (state_of self.new) out.new result }
+    {
+        let mut text = Writer { out, at: 0 };
+        self.finish_to(&mut text);
+        text.at
+    }
+
+    // The input in chunks of `size` bytes, the last one shorter: `feed_to` promises the same of one chunk.
+    fn feed_chunks(&mut self, input: &[u8], size: usize, text: &mut Writer<'_>) -> usize
+        requires { HasRoom text.old 0 }
+        ensures { Takes (state_of self.old) input.now text.old (state_of self.new) text.new result }
+    {
+        let mut taken = 0;
+        // Kept: a size of 0 means all at once, which `chunks` refuses, and `chunk_end` is what promises where a chunk ends (docs/PROOFS.md).
+        while taken < input.len() {
+            let end = chunk_end(taken, size, input.len());
+            taken += self.feed_to(&input[taken..end], text);
+            if taken < end {
+                return taken;
+            }
+        }
+        taken
     }
 }
 
-// Puts a text at the start of out.
-fn put_text(out: &mut [u8], text: &[u8])
-    requires { length text.now ≤ length out.old }
-    ensures { out.new ≡ placed out.old 0 text.now }
-{
-    let mut i = 0;
-    while i < text.len() {
-        i = decimal::put_byte(out, i, text[i]);
-    }
-}
-
-// The output after the header: the store is lent as zeros.
-fn run_lines(
-    input: &[u8],
-    size: usize,
-    line: &mut [u8; HELD],
-    luma: &mut [u8; PIXELS],
-    store: &mut [u8; STORE],
-    scratch: &mut [u8; SCRATCH],
-    magnitudes: &mut [i32; PIXELS],
-    out: &mut [u8],
-) -> Whole
-    requires { (store.old ≡ replicate 4096 0) × (17 ≤ length out.old) }
-    ensures { Runs input.now out.old out.new result.ok result.written }
-{
-    let f = feed_chunks(
-        new(),
-        input,
-        size,
-        line,
-        luma,
-        store,
-        scratch,
-        magnitudes,
-        out,
-        HEADER,
-    );
-    let e = HEADER + f.written;
-    if f.taken < input.len() {
-        return Whole {
-            ok: false,
-            written: 0,
-        };
-    }
-    if out.len() - e < ROOM {
-        return Whole {
-            ok: false,
-            written: 0,
-        };
-    }
-    let last = f.session;
-    let g = finish_at(last, line, luma, store, scratch, magnitudes, out, e);
-    Whole {
-        ok: true,
-        written: e + g.written,
-    }
-}
-
-// The whole session: the output of the input, which is fed in chunks of `size` bytes (0: all of it at once). 64 bytes more than the output
-// are always room enough. Of a shorter `out` it is left open whether it has room: where `ok` is false, `written` is 0, and of the bytes of
-// `out` nothing is promised.
-pub fn run(input: &[u8], size: usize, out: &mut [u8]) -> Whole
-    ensures { IsOutput input.now out.old out.new result.ok result.written }
+// The whole session: the output of the input, which is fed in chunks of `size` bytes (0: all of it at once), and its length. 64 bytes more
+// than the output are always room enough. Of a shorter `out` it is left open whether it has room: where it has none, nothing is told, and of
+// the bytes of `out` nothing is promised.
+pub fn run(input: &[u8], size: usize, out: &mut [u8]) -> Option<usize>
+    ensures { IsOutput input.now out.old out.new result }
 {
     if out.len() < HEADER {
-        return Whole {
-            ok: false,
-            written: 0,
-        };
+        return None;
     }
-    put_text(out, &header());
-    let mut line = [0u8; HELD];
-    let mut luma = [0u8; PIXELS];
-    let mut store = [0u8; STORE];
-    let mut scratch = [0u8; SCRATCH];
-    let mut magnitudes = [0i32; PIXELS];
-    run_lines(
-        input,
-        size,
-        &mut line,
-        &mut luma,
-        &mut store,
-        &mut scratch,
-        &mut magnitudes,
-        out,
-    )
+    let mut session = Session::new();
+    let mut text = Writer { out, at: 0 };
+    text.put_text(&header());
+    let taken = session.feed_chunks(input, size, &mut text);
+    if taken < input.len() || text.out.len() - text.at < ROOM {
+        return None;
+    }
+    session.finish_to(&mut text);
+    Some(text.at)
 }

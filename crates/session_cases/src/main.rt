@@ -1,9 +1,9 @@
 // Further inputs of the session, all on standard input as one session: every rule of refusal 16, both ends of the limits. It prints the
 // output, and up to which chunk size the output was the same byte for byte.
+// Kept, point 6: no heap: a buffer, and how much of it is text.
 #![tactic(auto)]
 
-ghost use Rattle.std.specs.Prelude.{◌≡◌, true, ◌≤◌, length, IfOk};
-ghost use Rattle.session_cases.specs.Starts.{StartSame};
+ghost use Rattle.std.specs.Prelude.{◌≤◌, length, IfOk};
 
 use std::io;
 use std::io::Read;
@@ -15,52 +15,28 @@ const INPUT: usize = 131072;
 
 const OUTPUT: usize = 65536;
 
-// Whether both have n bytes, and the first n bytes of both are the same.
-fn start_same(a: &[u8], b: &[u8], n: usize) -> bool
-    ensures { (result ≡ true → StartSame a.now b.now n) × (StartSame a.now b.now n → result ≡ true) }
-{
-    if a.len() < n {
-        return false;
-    }
-    if b.len() < n {
-        return false;
-    }
-    a[..n] == b[..n]
-}
-
 // Whether chunks of this size bring the same output.
-fn agrees(input: &[u8], size: usize, out: &[u8], n: usize, other: &mut [u8]) -> bool {
-    let r = session::run(input, size, other);
-    if !r.ok {
-        return false;
-    }
-    if r.written != n {
-        return false;
-    }
-    start_same(out, other, n)
+fn agrees(input: &[u8], size: usize, text: &[u8], other: &mut [u8]) -> bool {
+    session::run(input, size, other) == Some(text.len()) && other.starts_with(text)
 }
 
 // The first chunk size from 1 on that brings another output, or one more than the most.
-fn first_other(input: &[u8], out: &[u8], n: usize, other: &mut [u8]) -> u64 {
-    let mut size: usize = 1;
-    while size <= MOST_SIZE {
-        if !agrees(input, size, out, n, other) {
+// Kept: each size is tried by writing to `other`, and the size after the last is told where all agree.
+fn first_other(input: &[u8], text: &[u8], other: &mut [u8]) -> u64 {
+    for size in 1..=MOST_SIZE {
+        if !agrees(input, size, text, other) {
             return size as u64;
         }
-        size += 1;
     }
-    size as u64
+    MOST_SIZE as u64 + 1
 }
 
 fn report(rt: &impl Print, input: &[u8], out: &mut [u8], other: &mut [u8]) -> io::Result<()> {
-    let r = session::run(input, 0, out);
-    let n = r.written;
-    if !r.ok {
-        return Ok(());
-    }
-    if n <= out.len() {
-        rt.write_all(&out[..n])?;
-        let size = first_other(input, out, n, other);
+    if let Some(n) = session::run(input, 0, out)
+        && let Some(text) = out.get(..n)
+    {
+        rt.write_all(text)?;
+        let size = first_other(input, text, other);
         println!(rt; "the same in chunks of each size below {size}")?;
     }
     Ok(())
@@ -71,6 +47,7 @@ fn read_full(input: &mut impl Read, buf: &mut [u8]) -> io::Result<usize>
     ensures { IfOk result (λ n. n ≤ length buf.new) }
 {
     let mut done = 0;
+    // Kept: no `for` fits, since each turn takes as many bytes as a read gave.
     while done < buf.len() {
         let n = input.read(&mut buf[done..])?;
         if n == 0 {

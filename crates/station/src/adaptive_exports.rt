@@ -1,4 +1,6 @@
-// The adaptive detector's calls, as the crate `adaptive_station` has them.
+// The adaptive detector's calls, as the crates `station_answer` and `adaptive_station` have them.
+// Kept, point 2: each C name is a function of its own.
+// Kept, point 5: the C interface passes these one by one.
 ghost use Rattle.std.specs.Prelude.{◌≡◌};
 ghost use Rattle.score.specs.Scores.{components as components·of};
 ghost use Rattle.words.specs.Choices.{score_tag, components_tag};
@@ -10,7 +12,11 @@ ghost use Rattle.adaptive_words.specs.Record.{adaptive_of};
 ghost use Rattle.station_answer.specs.Answer.{stamp, score_shown, component_at};
 ghost use Rattle.station_answer.specs.Settings.{kernel_set, flag_set};
 ghost use Rattle.station_answer.specs.Promises.{FrameContract, ClearContract, SettingsContract};
-ghost use Rattle.adaptive_station.specs.Station.{adaptive_layout, adaptive_call, started_by};
+ghost use Rattle.station_answer.specs.Calls.{started_by};
+ghost use Rattle.adaptive_station.specs.Station.{adaptive_layout, adaptive_call};
+
+use adaptive_words::AdaptiveRecord;
+use station_answer::calls;
 
 // A luma frame.
 #[unsafe(no_mangle)]
@@ -28,7 +34,7 @@ pub extern "C" fn mw_adaptive_luma(
 ) -> u32
     ensures { FrameContract adaptive_layout (adaptive_call (adaptive_of state.old) (luma plane.now width height stride (stamp ts) (memory store.old scratch.old magnitudes.old))) result state.old state.new answer.old answer.new (memory store.old scratch.old magnitudes.old) (memory store.new scratch.new magnitudes.new) }
 {
-    adaptive_station::process_luma(
+    calls::process_luma::<AdaptiveRecord, 288>(
         state, answer, plane, width, height, stride, ts, store, scratch, magnitudes,
     )
 }
@@ -49,7 +55,7 @@ pub extern "C" fn mw_adaptive_bgr(
 ) -> u32
     ensures { FrameContract adaptive_layout (adaptive_call (adaptive_of state.old) (bgr pixels.now width height stride (stamp ts) (memory store.old scratch.old magnitudes.old))) result state.old state.new answer.old answer.new (memory store.old scratch.old magnitudes.old) (memory store.new scratch.new magnitudes.new) }
 {
-    adaptive_station::process_bgr(
+    calls::process_bgr::<AdaptiveRecord, 288>(
         state, answer, pixels, width, height, stride, ts, store, scratch, magnitudes,
     )
 }
@@ -72,7 +78,7 @@ pub extern "C" fn mw_adaptive_hsv(
 ) -> u32
     ensures { FrameContract adaptive_layout (adaptive_call (adaptive_of state.old) (hsv hue.now saturation.now value.now width height stride (stamp ts) (memory store.old scratch.old magnitudes.old))) result state.old state.new answer.old answer.new (memory store.old scratch.old magnitudes.old) (memory store.new scratch.new magnitudes.new) }
 {
-    adaptive_station::process_hsv(
+    calls::process_hsv::<AdaptiveRecord, 288>(
         state, answer, hue, saturation, value, width, height, stride, ts, store, scratch,
         magnitudes,
     )
@@ -83,7 +89,7 @@ pub extern "C" fn mw_adaptive_hsv(
 pub extern "C" fn mw_adaptive_clear(state: &mut [u64; 288]) -> u32
     ensures { ClearContract adaptive_layout (adaptive_call (adaptive_of state.old) clear) result state.old state.new }
 {
-    adaptive_station::clear(state)
+    calls::clear::<AdaptiveRecord, 288>(state)
 }
 
 // A fresh state with the default settings.
@@ -133,7 +139,7 @@ pub extern "C" fn mw_adaptive_new(
 pub extern "C" fn mw_adaptive_has_score(state: &[u64; 288]) -> u32
     ensures { result ≡ score_tag (adaptive_of state.now).stream.last_score }
 {
-    adaptive_station::has_score(state)
+    calls::has_score::<AdaptiveRecord, 288>(state)
 }
 
 // The last score, or 0.0.
@@ -141,7 +147,7 @@ pub extern "C" fn mw_adaptive_has_score(state: &[u64; 288]) -> u32
 pub extern "C" fn mw_adaptive_score(state: &[u64; 288]) -> f64
     ensures { result ≡ score_shown (adaptive_of state.now).stream.last_score }
 {
-    adaptive_station::last_score(state)
+    calls::last_score::<AdaptiveRecord, 288>(state)
 }
 
 // Whether there is a last ratio: 1 or 0.
@@ -181,7 +187,7 @@ pub extern "C" fn mw_adaptive_target(state: &[u64; 288]) -> f64
 pub extern "C" fn mw_adaptive_has_components(state: &[u64; 288]) -> u32
     ensures { result ≡ components_tag (adaptive_of state.now).stream.last_components }
 {
-    adaptive_station::has_components(state)
+    calls::has_components::<AdaptiveRecord, 288>(state)
 }
 
 // One of the last components, or 0.0: 0 is hue, 1 saturation, 2 luma, 3 edges.
@@ -189,5 +195,5 @@ pub extern "C" fn mw_adaptive_has_components(state: &[u64; 288]) -> u32
 pub extern "C" fn mw_adaptive_component(state: &[u64; 288], place: u32) -> f64
     ensures { result ≡ component_at (components_shown (adaptive_of state.now).stream.last_components) place }
 {
-    adaptive_station::last_component(state, place)
+    calls::last_component::<AdaptiveRecord, 288>(state, place)
 }

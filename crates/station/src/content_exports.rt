@@ -1,4 +1,6 @@
-// The content detector's calls, as the crate `content_station` has them.
+// The content detector's calls, as the crates `station_answer` and `content_station` have them.
+// Kept, point 2: each C name is a function of its own.
+// Kept, point 5: the C interface passes these one by one.
 ghost use Rattle.std.specs.Prelude.{◌≡◌};
 ghost use Rattle.score.specs.Scores.{components as components·of};
 ghost use Rattle.words.specs.Choices.{score_tag, components_tag};
@@ -10,7 +12,11 @@ ghost use Rattle.content_words.specs.Record.{content_of};
 ghost use Rattle.station_answer.specs.Answer.{stamp, score_shown, component_at};
 ghost use Rattle.station_answer.specs.Settings.{mode_set, kernel_set, flag_set};
 ghost use Rattle.station_answer.specs.Promises.{FrameContract, ClearContract, SettingsContract};
-ghost use Rattle.content_station.specs.Station.{content_layout, content_call, started_by, settled_by};
+ghost use Rattle.station_answer.specs.Calls.{started_by};
+ghost use Rattle.content_station.specs.Station.{content_layout, content_call, settled_by};
+
+use content_words::ContentRecord;
+use station_answer::calls;
 
 // A luma frame.
 #[unsafe(no_mangle)]
@@ -28,7 +34,7 @@ pub extern "C" fn mw_content_luma(
 ) -> u32
     ensures { FrameContract content_layout (content_call (content_of state.old) (luma plane.now width height stride (stamp ts) (memory store.old scratch.old magnitudes.old))) result state.old state.new answer.old answer.new (memory store.old scratch.old magnitudes.old) (memory store.new scratch.new magnitudes.new) }
 {
-    content_station::process_luma(
+    calls::process_luma::<ContentRecord, 27>(
         state, answer, plane, width, height, stride, ts, store, scratch, magnitudes,
     )
 }
@@ -49,7 +55,7 @@ pub extern "C" fn mw_content_bgr(
 ) -> u32
     ensures { FrameContract content_layout (content_call (content_of state.old) (bgr pixels.now width height stride (stamp ts) (memory store.old scratch.old magnitudes.old))) result state.old state.new answer.old answer.new (memory store.old scratch.old magnitudes.old) (memory store.new scratch.new magnitudes.new) }
 {
-    content_station::process_bgr(
+    calls::process_bgr::<ContentRecord, 27>(
         state, answer, pixels, width, height, stride, ts, store, scratch, magnitudes,
     )
 }
@@ -72,7 +78,7 @@ pub extern "C" fn mw_content_hsv(
 ) -> u32
     ensures { FrameContract content_layout (content_call (content_of state.old) (hsv hue.now saturation.now value.now width height stride (stamp ts) (memory store.old scratch.old magnitudes.old))) result state.old state.new answer.old answer.new (memory store.old scratch.old magnitudes.old) (memory store.new scratch.new magnitudes.new) }
 {
-    content_station::process_hsv(
+    calls::process_hsv::<ContentRecord, 27>(
         state, answer, hue, saturation, value, width, height, stride, ts, store, scratch,
         magnitudes,
     )
@@ -83,7 +89,7 @@ pub extern "C" fn mw_content_hsv(
 pub extern "C" fn mw_content_clear(state: &mut [u64; 27]) -> u32
     ensures { ClearContract content_layout (content_call (content_of state.old) clear) result state.old state.new }
 {
-    content_station::clear(state)
+    calls::clear::<ContentRecord, 27>(state)
 }
 
 // A fresh state with the default settings.
@@ -132,7 +138,7 @@ pub extern "C" fn mw_content_new(
 pub extern "C" fn mw_content_has_score(state: &[u64; 27]) -> u32
     ensures { result ≡ score_tag (content_of state.now).stream.last_score }
 {
-    content_station::has_score(state)
+    calls::has_score::<ContentRecord, 27>(state)
 }
 
 // The last score, or 0.0.
@@ -140,7 +146,7 @@ pub extern "C" fn mw_content_has_score(state: &[u64; 27]) -> u32
 pub extern "C" fn mw_content_score(state: &[u64; 27]) -> f64
     ensures { result ≡ score_shown (content_of state.now).stream.last_score }
 {
-    content_station::last_score(state)
+    calls::last_score::<ContentRecord, 27>(state)
 }
 
 // Whether there are last components: 1 or 0.
@@ -148,7 +154,7 @@ pub extern "C" fn mw_content_score(state: &[u64; 27]) -> f64
 pub extern "C" fn mw_content_has_components(state: &[u64; 27]) -> u32
     ensures { result ≡ components_tag (content_of state.now).stream.last_components }
 {
-    content_station::has_components(state)
+    calls::has_components::<ContentRecord, 27>(state)
 }
 
 // One of the last components, or 0.0: 0 is hue, 1 saturation, 2 luma, 3 edges.
@@ -156,5 +162,5 @@ pub extern "C" fn mw_content_has_components(state: &[u64; 27]) -> u32
 pub extern "C" fn mw_content_component(state: &[u64; 27], place: u32) -> f64
     ensures { result ≡ component_at (components_shown (content_of state.now).stream.last_components) place }
 {
-    content_station::last_component(state, place)
+    calls::last_component::<ContentRecord, 27>(state, place)
 }

@@ -5,10 +5,9 @@
 // what the call writes.
 #![tactic(auto)]
 
-ghost use Rattle.std.specs.Prelude.{◌≡◌, length};
-ghost use Rattle.timestamp.specs.declared.MaybeTimestamp.{MaybeTimestamp};
+ghost use Rattle.std.specs.Prelude.{◌≡◌, length, Option, Float};
+ghost use Rattle.timestamp.specs.declared.Timestamp.{Timestamp};
 ghost use Rattle.score.specs.declared.Components.{Components};
-ghost use Rattle.score.specs.declared.MaybeScore.{MaybeScore};
 ghost use Rattle.stream.specs.declared.Sums.{Sums};
 ghost use Rattle.content.specs.declared.Detector.{Detector};
 ghost use Rattle.adaptive.specs.declared.Detector.{Detector as AdaptiveDetector};
@@ -33,6 +32,7 @@ pub extern "C" fn mw_version() -> u32
 }
 
 // How many words a content state has.
+#[tactic(auto, using(content_words::proofs::Writing::words_length))]
 #[unsafe(no_mangle)]
 pub extern "C" fn mw_content_words() -> u64
     ensures { (d : Detector) → result ≡ length (content_words d) }
@@ -41,6 +41,7 @@ pub extern "C" fn mw_content_words() -> u64
 }
 
 // How many words an adaptive state has.
+#[tactic(auto, using(adaptive_words::proofs::Writing::words_length))]
 #[unsafe(no_mangle)]
 pub extern "C" fn mw_adaptive_words() -> u64
     ensures { (d : AdaptiveDetector) → result ≡ length (adaptive_words d) }
@@ -49,14 +50,16 @@ pub extern "C" fn mw_adaptive_words() -> u64
 }
 
 // How many words an answer has.
+#[tactic(auto, unfolding(station_answer::specs::Answer::answer_words))]
 #[unsafe(no_mangle)]
 pub extern "C" fn mw_answer_words() -> u64
-    ensures { (cut : MaybeTimestamp) (score : MaybeScore) (deltas : Components) (sums : Sums) → result ≡ length (answer_words cut score deltas sums) }
+    ensures { (cut : Option Timestamp) (score : Option Float) (deltas : Components) (sums : Sums) → result ≡ length (answer_words cut score deltas sums) }
 {
     13
 }
 
 // How many words the record of a list has.
+#[tactic(auto, using(cut_list_station::proofs::Laws::words_length))]
 #[unsafe(no_mangle)]
 pub extern "C" fn mw_list_words() -> u64
     ensures { (l : CutList) → result ≡ length (list_words l) }

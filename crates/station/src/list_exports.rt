@@ -1,4 +1,6 @@
 // The calls on a list of a sitting, as the crate `cut_list_station` has them.
+// Kept, point 5: the C interface passes these one by one.
+// Kept, point 2: each C name is a function of its own.
 ghost use Rattle.std.specs.Prelude.{◌≡◌};
 ghost use Rattle.cut_list.specs.Record.{held};
 ghost use Rattle.cut_list.specs.Change.{added, removed, emptied};

@@ -1,4 +1,3 @@
-pub mod Small
 pub mod Enough
-pub mod Made
-pub mod Promises
+pub mod Refused
+pub mod Shown

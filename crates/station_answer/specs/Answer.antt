@@ -1,13 +1,10 @@
 -- The answer of a frame call in words, what they are read as, and what the readers show (RULES 15.3, 15.7 and 15.9).
-use Rattle.std.specs.Prelude.{◌≡◌, cond, List, [], ◌∷◌, ℕ, ◌%◌, eqb, Float, ℤ}
+use Rattle.std.specs.Prelude.{◌≡◌, cond, List, [], ◌∷◌, ℕ, ◌%◌, eqb, Float, ℤ, None, Option, Some}
 use Rattle.std.specs.Float.{binary64}
 use Rattle.std.specs.Float.Ieee.{to_bits}
 use Rattle.laws.specs.Floats.{float}
 use Rattle.timestamp.specs.declared.Timestamp.{Timestamp}
-use Rattle.timestamp.specs.declared.MaybeTimestamp.{MaybeTimestamp}
 use Rattle.score.specs.declared.Components.{Components}
-use Rattle.score.specs.declared.MaybeScore.{MaybeScore}
-use Rattle.score.specs.declared.MaybeScore.TheVariants.{None, Some}
 use Rattle.stream.specs.declared.Sums.{Sums}
 use Rattle.words.specs.Choices.{stamp_tag, stamp_word, stamp_of, score_tag, score_word, score_of, components_of}
 use Rattle.words.specs.Stream.{word_at}
@@ -18,7 +15,7 @@ stamp z = record { micros = z }
 
 -- thirteen words: whether there is a cut, its stamp or 0, whether there is a score, its bits or 0, the bits of the four components, and the five
 -- whole numbers that these come from: the sums of hue, saturation, luma and edges, and the count (RULES 4.4)
-unfoldable pub answer_words : MaybeTimestamp → MaybeScore → Components → Sums → List ℕ
+unfoldable pub answer_words : Option Timestamp → Option Float → Components → Sums → List ℕ
 answer_words cut score c sums =
     stamp_tag cut ∷
     stamp_word cut ∷
@@ -36,11 +33,11 @@ answer_words cut score c sums =
     []
 
 -- the cut that the words of an answer are read as, or none
-abbrev pub cut_in : List ℕ → MaybeTimestamp
+abbrev pub cut_in : List ℕ → Option Timestamp
 cut_in a = stamp_of (word_at a 0) (word_at a 1)
 
 -- the score that the words of an answer are read as, or none
-abbrev pub score_in : List ℕ → MaybeScore
+abbrev pub score_in : List ℕ → Option Float
 score_in a = score_of (word_at a 2) (word_at a 3)
 
 -- the four components that the words of an answer are read as
@@ -59,7 +56,7 @@ sums_in a =
     }
 
 -- words that read back as this cut, this score, these components and these sums
-pub record ReadAs (cut : MaybeTimestamp) (score : MaybeScore) (deltas : Components) (sums : Sums) (a : List ℕ) : Type 0 where
+pub record ReadAs (cut : Option Timestamp) (score : Option Float) (deltas : Components) (sums : Sums) (a : List ℕ) : Type 0 where
   pub the-cut : cut_in a ≡ cut
   pub the-score : score_in a ≡ score
   pub the-components : components_in a ≡ deltas
@@ -70,7 +67,7 @@ abbrev pub after : {A : Type 0} → ℕ → A → A → A
 after n new old = cond (eqb n 0) new old
 
 -- the score, or 0.0 where there is none
-abbrev pub score_shown : MaybeScore → Float
+abbrev pub score_shown : Option Float → Float
 score_shown None = float 0
 score_shown (Some x) = x
 

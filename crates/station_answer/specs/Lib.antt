@@ -2,3 +2,4 @@ pub mod Sizes
 pub mod Answer
 pub mod Settings
 pub mod Promises
+pub mod Calls

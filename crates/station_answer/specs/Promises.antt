@@ -1,13 +1,12 @@
 -- What the station's calls promise, for either detector (RULES 15.3, 15.5, 15.6 and 15.10). `s` is the state's words at entry and `s'` at exit, `a`
 -- and `a'` the answer's, `m` and `m'` the store, the scratch and the magnitudes, `r` the number that is returned.
-use Rattle.std.specs.Prelude.{◌≡◌, List, ℕ, ◌<◌, length}
-use Rattle.timestamp.specs.declared.MaybeTimestamp.{MaybeTimestamp}
+use Rattle.std.specs.Prelude.{◌≡◌, List, ℕ, ◌<◌, length, Float, Option}
 use Rattle.score.specs.declared.Components.{Components}
-use Rattle.score.specs.declared.MaybeScore.{MaybeScore}
 use Rattle.stream.specs.declared.Sums.{Sums}
 use Rattle.stream.specs.Stream.{FromSums}
 use Rattle.frame_call.specs.Call.{Memory}
 use Rattle.station_answer.specs.Answer.{answer_words, ReadAs, score_in, components_in, sums_in, after}
+use Rattle.timestamp.specs.declared.Timestamp.{Timestamp}
 
 -- a detector's record `D` in words: the words of a record, the record that words hold, and the weights of a record
 pub record Layout (D : Type 0) : Type 0 where
@@ -20,8 +19,8 @@ pub record Layout (D : Type 0) : Type 0 where
 pub record Brought (D : Type 0) : Type 0 where
   pub number : ℕ
   pub detector : D
-  pub cut : MaybeTimestamp
-  pub score : MaybeScore
+  pub cut : Option Timestamp
+  pub score : Option Float
   pub components : Components
   pub sums : Sums
   pub store : List ℕ

@@ -1,7 +1,6 @@
 -- Settings by numbers, as a C program passes them (RULES 15.5).
-use Rattle.std.specs.Prelude.{Bool, true, false, not, ℕ, eqb, ltb}
-use Rattle.score.specs.declared.KernelSize.{KernelSize}
-use Rattle.score.specs.declared.KernelSize.TheVariants.{Auto, Set}
+use Rattle.std.specs.Prelude.{Bool, not, ℕ, eqb, ltb, Option}
+use Rattle.std.specs.Bool.{then_some}
 use Rattle.filter.specs.declared.FilterMode.{FilterMode}
 use Rattle.content_words.specs.Options.{mode_of}
 
@@ -18,10 +17,9 @@ abbrev pub no_mode : ℕ → Bool
 no_mode n = ltb 1 n
 
 -- k, set to this number or not set
-abbrev pub kernel_by : Bool → ℕ → KernelSize
-kernel_by true k = Set k
-kernel_by false k = Auto
+abbrev pub kernel_by : Bool → ℕ → Option ℕ
+kernel_by set k = then_some set k
 
 -- k by two numbers: where the first is on, k is set to the second; otherwise it goes by the frame's size, and the second is ignored
-abbrev pub kernel_set : (has k : ℕ) → KernelSize
+abbrev pub kernel_set : (has k : ℕ) → Option ℕ
 kernel_set has k = kernel_by (flag_set has) k

@@ -1,53 +1,34 @@
 -- THE THEOREM for the adaptive detector: the spacing theorem, as `specs/Claim.antt` states it, of every list of calls that a station makes,
 -- from the words that a settings call wrote. It rests on the contracts of the station's calls and assumes nothing else.
-use mathlib.Core.Path.{◌≡◌, refl, ap, subst, ◌∙◌}
-use mathlib.Core.Bool.{Bool, true, false, cond}
+use Rattle.std.proofs.Common.{None, Option}
+use mathlib.Core.Path.{◌≡◌, refl, ap, ◌∙◌}
+use mathlib.Core.Bool.{Bool, true, false}
 use mathlib.Core.List.{List, [], ◌∷◌, map}
 use Prim.Native.Nat.{ℕ, ◌<◌}
 use borrow.Author.Tests.{eqb-true}
 use lib.Dec.{eqb}
 use Rattle.timestamp.specs.declared.Timestamp.{Timestamp}
-use Rattle.timestamp.specs.declared.MaybeTimestamp.{MaybeTimestamp}
-use Rattle.timestamp.specs.declared.MaybeTimestamp.TheVariants.{None}
-use Rattle.frame_call.specs.declared.Picture.{Picture}
-use Rattle.frame_call.specs.Call.{Memory, pictured, answered_by}
-use Rattle.scoring.specs.Planes.{Planes}
 use Rattle.frame_call.specs.Run.{own_number, MadeCall, run_from}
 use Rattle.laws.specs.Lists.{All}
 use Rattle.adaptive.specs.declared.Options.{Options}
 use Rattle.adaptive.specs.declared.Detector.{Detector}
-use Rattle.adaptive.specs.declared.Answer.{Answer}
 use Rattle.adaptive.specs.Options.{defaults, picture_options, options_refusal}
-use Rattle.adaptive.specs.State.{fresh, bad_state, settled, refused_answer, cleared_answer}
+use Rattle.adaptive.specs.State.{Answer, fresh, bad_state, settled, cleared_answer}
 use Rattle.adaptive.specs.Step.{stepped, called}
-use Rattle.frame_call.specs.Call.{Call, luma, bgr, hsv, clear}
+use Rattle.frame_call.specs.Call.{Call}
 use Rattle.adaptive_claim.specs.Claim.{from_clear_to_clear, AdaptiveClaim}
 use Rattle.adaptive_claim.proofs.Theorem.{adaptive-claim, with_answer, defaults-accepted}
 use Rattle.adaptive_words.specs.Record.{adaptive_of}
+use Rattle.adaptive_words.specs.Calls.{accepted}
 use Rattle.station_answer.specs.Promises.{SettingsContract}
-use Rattle.adaptive_station.specs.Station.{adaptive_layout, adaptive_call, started_by}
+use Rattle.station_answer.specs.Calls.{started_by}
+use Rattle.station_answer.proofs.Refused.{refused_none as none-refused}
+use Rattle.adaptive_station.specs.Station.{adaptive_layout, adaptive_call}
 use Rattle.station_claim.specs.Run.{StationCall, cut_read, MadeFrom}
 use Rattle.station_claim.specs.Claim.{read_from_clear_to_clear, AdaptiveSpacing}
 use Rattle.station_claim.proofs.Runs.{Heard, heard_from, heard_by, heard-is, each-is}
 
 -- ---- a call that is refused has no cut, nor has `clear`
-
-picture-none : (d : Detector) (ts : Timestamp) (p : Picture) → eqb (answered_by (stepped d ts) (refused_answer d) p).number 0 ≡ false
-    → (answered_by (stepped d ts) (refused_answer d) p).cut ≡ None
-unfolding stepped
-picture-none d ts p e = by_zero (eqb p.number 0) refl e
-  where
-    by_zero : (b : Bool) → eqb p.number 0 ≡ b → eqb (answered_by (stepped d ts) (refused_answer d) p).number 0 ≡ false → (answered_by (stepped d ts) (refused_answer d) p).cut ≡ None
-    by_zero true z f = absurd (no (rw z at f))
-      where
-        no : true ≡ false → ⊥
-        no x = subst (λ (b : Bool). cond b Unit ⊥) x tt
-    by_zero false z f = rw z
-
-frame-none : (d : Detector) (u w h : ℕ) (p : Planes) (ts : Timestamp) (m : Memory)
-    → let a : Answer = answered_by (stepped d ts) (refused_answer d) (pictured d.stream (picture_options d.options) (bad_state d) u w h p m).answer in
-    eqb a.number 0 ≡ false → a.cut ≡ None
-frame-none d u w h p ts m e = picture-none d ts (pictured d.stream (picture_options d.options) (bad_state d) u w h p m).answer e
 
 clear_none : (d : Detector) → (cleared_answer d).cut ≡ None
 unfolding cleared_answer
@@ -58,10 +39,8 @@ clear_none d = by-bad (bad_state d) refl
     by-bad false e = rw e
 
 refused_none : (d : Detector) (c : Call) → eqb (adaptive_call d c).number 0 ≡ false → (adaptive_call d c).cut ≡ None
-refused_none d (luma plane w h stride ts m) e = frame-none d _ w h _ ts m e
-refused_none d (bgr pixels w h stride ts m) e = frame-none d _ w h _ ts m e
-refused_none d (hsv hs ss vs w h stride ts m) e = frame-none d _ w h _ ts m e
-refused_none d clear e = clear_none d
+refused_none d c e =
+    none-refused (λ (d : Detector). d.stream) (λ (d : Detector). picture_options d.options) bad_state stepped cleared_answer accepted clear_none d c e
 
 -- ---- what the station sees is what the definition's run has
 
@@ -80,17 +59,17 @@ all_of P [] a = tt
 all_of P (m ∷ ms) a = (a.0, all_of P ms a.1)
 
 -- the cuts or none, from clear to clear
-abbrev parts : List Heard → List (List MaybeTimestamp)
+abbrev parts : List Heard → List (List (Option Timestamp))
 parts [] = [] ∷ []
 parts (h ∷ hs) = with_answer h.call h.cut (parts hs)
 
 parts-read : (ys : List StationCall) → read_from_clear_to_clear ys ≡ parts (map heard_from ys)
 parts-read [] = refl
-parts-read (y ∷ ys) = ap (λ (ps : List (List MaybeTimestamp)). with_answer y.call (cut_read y) ps) (parts-read ys)
+parts-read (y ∷ ys) = ap (λ (ps : List (List (Option Timestamp))). with_answer y.call (cut_read y) ps) (parts-read ys)
 
 parts-made : (ms : List (MadeCall Answer)) → parts (map heard_of ms) ≡ from_clear_to_clear ms
 parts-made [] = refl
-parts-made (m ∷ ms) = ap (λ (ps : List (List MaybeTimestamp)). with_answer m.call m.outcome.answer.cut ps) (parts-made ms)
+parts-made (m ∷ ms) = ap (λ (ps : List (List (Option Timestamp))). with_answer m.call m.outcome.answer.cut ps) (parts-made ms)
 
 module _ (o : Options) (ok : options_refusal o ≡ 0) (s : List ℕ) (ys : List StationCall) (start : adaptive_of s ≡ fresh o) (made : MadeFrom adaptive_layout adaptive_call s ys) where
   abbrev calls_made : List Call

@@ -1,55 +1,36 @@
 -- THE THEOREM for the content detector: the spacing theorem, as `specs/Claim.antt` states it, of every list of calls that a station makes,
 -- from the words that a settings call wrote. It rests on the contracts of the station's calls and assumes nothing else.
-use mathlib.Core.Path.{◌≡◌, refl, ap, subst, ◌∙◌}
+use Rattle.std.proofs.Common.{None, Option}
+use mathlib.Core.Path.{◌≡◌, refl, ap, ◌∙◌}
 use mathlib.Core.Bool.{Bool, true, false, cond, not}
 use mathlib.Core.List.{List, [], ◌∷◌, map}
 use Prim.Native.Nat.{ℕ, ◌<◌}
 use borrow.Author.Tests.{eqb-true}
 use lib.Dec.{eqb}
 use Rattle.timestamp.specs.declared.Timestamp.{Timestamp}
-use Rattle.timestamp.specs.declared.MaybeTimestamp.{MaybeTimestamp}
-use Rattle.timestamp.specs.declared.MaybeTimestamp.TheVariants.{None}
-use Rattle.frame_call.specs.declared.Picture.{Picture}
-use Rattle.frame_call.specs.Call.{Memory, pictured, answered_by}
-use Rattle.scoring.specs.Planes.{Planes}
 use Rattle.frame_call.specs.Run.{own_number, MadeCall, run_from}
 use Rattle.filter.specs.Calls.{Answered, ◌brought◌}
 use Rattle.laws.specs.Lists.{All}
 use Rattle.content.specs.declared.Options.{Options}
 use Rattle.content.specs.declared.Detector.{Detector}
-use Rattle.content.specs.declared.Answer.{Answer}
 use Rattle.content.specs.Options.{defaults, picture_options, options_refusal}
-use Rattle.content.specs.State.{fresh, bad_state, settled, refused_answer, cleared_answer}
+use Rattle.content.specs.State.{Answer, fresh, bad_state, settled, cleared_answer}
 use Rattle.content.specs.Step.{stepped, called}
-use Rattle.frame_call.specs.Call.{Call, luma, bgr, hsv, clear}
+use Rattle.frame_call.specs.Call.{Call}
 use Rattle.content_claim.specs.Claim.{view_of, with_cut, ContentClaim}
 use Rattle.content_claim.proofs.Theorem.{content-claim, defaults-accepted}
 use Rattle.content_words.specs.Record.{content_of}
 use Rattle.station_answer.specs.Settings.{no_mode}
+use Rattle.content_words.specs.Calls.{accepted}
 use Rattle.station_answer.specs.Promises.{SettingsContract}
-use Rattle.content_station.specs.Station.{content_layout, content_call, started_by, settings_number, settled_by}
+use Rattle.station_answer.specs.Calls.{started_by}
+use Rattle.station_answer.proofs.Refused.{refused_none as none-refused}
+use Rattle.content_station.specs.Station.{content_layout, content_call, settings_number, settled_by}
 use Rattle.station_claim.specs.Run.{StationCall, MadeFrom}
 use Rattle.station_claim.specs.Claim.{with_cut_read, ContentSpacing}
 use Rattle.station_claim.proofs.Runs.{Heard, heard_from, heard_by, heard-is, each-is}
 
 -- ---- a call that is refused has no cut, nor has `clear`
-
-picture-none : (d : Detector) (ts : Timestamp) (p : Picture) → eqb (answered_by (stepped d ts) (refused_answer d) p).number 0 ≡ false
-    → (answered_by (stepped d ts) (refused_answer d) p).cut ≡ None
-unfolding stepped
-picture-none d ts p e = by_zero (eqb p.number 0) refl e
-  where
-    by_zero : (b : Bool) → eqb p.number 0 ≡ b → eqb (answered_by (stepped d ts) (refused_answer d) p).number 0 ≡ false → (answered_by (stepped d ts) (refused_answer d) p).cut ≡ None
-    by_zero true z f = absurd (no (rw z at f))
-      where
-        no : true ≡ false → ⊥
-        no x = subst (λ (b : Bool). cond b Unit ⊥) x tt
-    by_zero false z f = rw z
-
-frame-none : (d : Detector) (u w h : ℕ) (p : Planes) (ts : Timestamp) (m : Memory)
-    → let a : Answer = answered_by (stepped d ts) (refused_answer d) (pictured d.stream (picture_options d.options) (bad_state d) u w h p m).answer in
-    eqb a.number 0 ≡ false → a.cut ≡ None
-frame-none d u w h p ts m e = picture-none d ts (pictured d.stream (picture_options d.options) (bad_state d) u w h p m).answer e
 
 clear_none : (d : Detector) → (cleared_answer d).cut ≡ None
 unfolding cleared_answer
@@ -60,10 +41,8 @@ clear_none d = by-bad (bad_state d) refl
     by-bad false e = rw e
 
 refused_none : (d : Detector) (c : Call) → eqb (content_call d c).number 0 ≡ false → (content_call d c).cut ≡ None
-refused_none d (luma plane w h stride ts m) e = frame-none d _ w h _ ts m e
-refused_none d (bgr pixels w h stride ts m) e = frame-none d _ w h _ ts m e
-refused_none d (hsv hs ss vs w h stride ts m) e = frame-none d _ w h _ ts m e
-refused_none d clear e = clear_none d
+refused_none d c e =
+    none-refused (λ (d : Detector). d.stream) (λ (d : Detector). picture_options d.options) bad_state stepped cleared_answer accepted clear_none d c e
 
 -- ---- what the station sees is what the definition's run has
 
@@ -82,16 +61,16 @@ all_of P [] a = tt
 all_of P (m ∷ ms) a = (a.0, all_of P ms a.1)
 
 -- a call as `filter`'s claim sees it
-abbrev seen_as : Options → Heard → Answered MaybeTimestamp
+abbrev seen_as : Options → Heard → Answered (Option Timestamp)
 seen_as o h = view_of o h.call brought h.cut
 
 seen_read : (o : Options) (ys : List StationCall) → map (with_cut_read o) ys ≡ map (seen_as o) (map heard_from ys)
 seen_read o [] = refl
-seen_read o (y ∷ ys) = ap (λ (xs : List (Answered MaybeTimestamp)). with_cut_read o y ∷ xs) (seen_read o ys)
+seen_read o (y ∷ ys) = ap (λ (xs : List (Answered (Option Timestamp))). with_cut_read o y ∷ xs) (seen_read o ys)
 
 seen-made : (o : Options) (ms : List (MadeCall Answer)) → map (seen_as o) (map heard_of ms) ≡ map (with_cut o) ms
 seen-made o [] = refl
-seen-made o (m ∷ ms) = ap (λ (xs : List (Answered MaybeTimestamp)). with_cut o m ∷ xs) (seen-made o ms)
+seen-made o (m ∷ ms) = ap (λ (xs : List (Answered (Option Timestamp))). with_cut o m ∷ xs) (seen-made o ms)
 
 module _ (o : Options) (ok : options_refusal o ≡ 0) (s : List ℕ) (ys : List StationCall) (start : content_of s ≡ fresh o) (made : MadeFrom content_layout content_call s ys) where
   abbrev calls_made : List Call

@@ -1,12 +1,11 @@
 -- What a list of station calls brings, for either detector: what the definition of the calls gives, one call after the other.
+use Rattle.std.proofs.Common.{None, Option}
 use mathlib.Core.Path.{◌≡◌, refl, sym, ap, subst, ◌∙◌}
 use mathlib.Core.Bool.{Bool, true, false, cond, not}
 use mathlib.Core.List.{List, [], ◌∷◌, map}
 use Prim.Native.Nat.{ℕ, ◌<◌}
 use borrow.Author.Tests.{eqb-true}
 use lib.Dec.{eqb}
-use Rattle.timestamp.specs.declared.MaybeTimestamp.{MaybeTimestamp}
-use Rattle.timestamp.specs.declared.MaybeTimestamp.TheVariants.{None}
 use Rattle.laws.specs.Lists.{All, leave_out}
 use Rattle.frame_call.specs.Call.{Memory, Call, clear}
 use Rattle.frame_call.specs.Run.{own_number}
@@ -14,12 +13,13 @@ use Rattle.station_answer.specs.Answer.{answer_words, cut_in}
 use Rattle.station_answer.specs.Promises.{Layout, Brought, FrameContract}
 use Rattle.station_claim.specs.Run.{is_frame, StationCall, was_refused, cut_read, Made, by-frame, by-clear, MadeFrom, none, then}
 use Rattle.station_claim.specs.Claim.{EachCall}
+use Rattle.timestamp.specs.declared.Timestamp.{Timestamp}
 
 -- what the claim speaks of: a call, its number, and the cut or none
 pub record Heard : Type 0 where
   pub call : Call
   pub number : ℕ
-  pub cut : MaybeTimestamp
+  pub cut : Option Timestamp
 
 abbrev pub heard_from : StationCall → Heard
 heard_from y = record { call = y.call; number = y.number; cut = cut_read y }
@@ -92,7 +92,7 @@ module _ {D : Type 0} (l : Layout D) (calls : D → Call → Brought D)
       let cut = cut-is m ∙ ap (λ (v : D). (calls v y.call).cut) e in
       let held = held-is m ∙ ap (λ (v : D). (calls v y.call).detector) e in
       ap (λ (n : ℕ). record { call = y.call; number = n; cut = cut_read y } ∷ map heard_from ys) number
-      ∙ ap (λ (k : MaybeTimestamp). record { call = y.call; number = (calls d y.call).number; cut = k } ∷ map heard_from ys) cut
+      ∙ ap (λ (k : Option Timestamp). record { call = y.call; number = (calls d y.call).number; cut = k } ∷ map heard_from ys) cut
       ∙ ap (λ (hs : List Heard). record { call = y.call; number = (calls d y.call).number; cut = (calls d y.call).cut } ∷ hs) (heard-is rest (calls d y.call).detector held)
 
   -- a call, before the calls after it without their refused ones

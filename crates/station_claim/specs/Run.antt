@@ -1,10 +1,9 @@
 -- Lists of station calls on one detector, and what a station sees of each call (RULES 14.14).
-use Rattle.std.specs.Prelude.{◌≡◌, Bool, true, false, cond, not, List, [], ◌∷◌, ℕ, eqb}
-use Rattle.timestamp.specs.declared.MaybeTimestamp.{MaybeTimestamp}
-use Rattle.timestamp.specs.declared.MaybeTimestamp.TheVariants.{None}
+use Rattle.std.specs.Prelude.{◌≡◌, Bool, true, false, cond, not, List, [], ◌∷◌, ℕ, eqb, None, Option}
 use Rattle.frame_call.specs.Call.{Memory, memory, Call, clear, by_call}
 use Rattle.station_answer.specs.Answer.{cut_in}
 use Rattle.station_answer.specs.Promises.{Layout, Brought, FrameContract, ClearContract}
+use Rattle.timestamp.specs.declared.Timestamp.{Timestamp}
 
 -- whether a call is a frame call, and the memory that it is lent; `clear` is lent none
 abbrev pub is_frame : Call → Bool
@@ -27,7 +26,7 @@ abbrev pub was_refused : StationCall → Bool
 was_refused y = not (eqb y.number 0)
 
 -- the cut or none that the station reads from the answer's words; a refused call has none (RULES 14.14)
-abbrev pub cut_read : StationCall → MaybeTimestamp
+abbrev pub cut_read : StationCall → Option Timestamp
 cut_read y = cond (eqb y.number 0) (cut_in y.answer) None
 
 module _ {D : Type 0} (l : Layout D) (calls : D → Call → Brought D) where

@@ -3,13 +3,15 @@
 #![tactic(auto)]
 
 ghost use Rattle.std.specs.Prelude.{◌≡◌, ◌≤◌};
+ghost use Rattle.refusal.specs.Refusal.{number_in};
 ghost use Rattle.stream.specs.Stream.{no_sums, components_of, fresh_stream, is_scored, next_stream, components_shown, memory_refusal};
 
-use score::{Components, MaybeComponents, MaybeScore};
+use refusal::Refusal;
+use score::Components;
 
 // The whole sums of the differences of a frame's planes with those of the frame before, and the number of pixels: what its components and its score
 // come from.
-#[derive(Clone, Copy)]
+#[derive(Clone, Copy, Debug, PartialEq, Eq)]
 pub struct Sums {
     pub hue: u32,
     pub saturation: u32,
@@ -19,6 +21,7 @@ pub struct Sums {
 }
 
 // All five are 0.
+// Kept: by the name of the definition that its contract cites.
 pub fn no_sums() -> Sums
     ensures { result ≡ no_sums }
 {
@@ -32,6 +35,7 @@ pub fn no_sums() -> Sums
 }
 
 // The components: each sum over the count.
+#[tactic(auto, unfolding(crate::specs::Stream::components_of))]
 pub fn components(s: Sums) -> Components
     ensures { result ≡ components_of s }
 {
@@ -44,11 +48,13 @@ pub fn components(s: Sums) -> Components
 }
 
 // What both detectors keep of the stream.
-#[derive(Clone, Copy)]
+// Kept: the C interface writes a state as words with these fields, the score and the components each with a tag of its own; and the size stays
+// after `clear`, where there is no frame before.
+#[derive(Clone, Copy, Debug, PartialEq)]
 pub struct Stream {
     pub has_previous: bool,
-    pub last_score: MaybeScore,
-    pub last_components: MaybeComponents,
+    pub last_score: Option<f64>,
+    pub last_components: Option<Components>,
     pub width: u32,
     pub height: u32,
 }
@@ -59,82 +65,73 @@ pub fn fresh_stream(width: u32, height: u32) -> Stream
 {
     Stream {
         has_previous: false,
-        last_score: MaybeScore::None,
-        last_components: MaybeComponents::None,
-        width: width,
-        height: height,
+        last_score: None,
+        last_components: None,
+        width,
+        height,
     }
 }
 
 // Whether a frame of this size is scored.
+#[tactic(auto, unfolding(crate::specs::Stream::is_scored))]
 pub fn is_scored(s: Stream, width: u32, height: u32) -> bool
     ensures { result ≡ is_scored s width height }
 {
-    (s.width == width) & (s.height == height) & s.has_previous
+    s.width == width && s.height == height && s.has_previous
 }
 
 // After an accepted frame with these sums of differences.
+#[tactic(auto, unfolding(crate::specs::Stream::next_stream))]
 pub fn next_stream(s: Stream, width: u32, height: u32, weights: Components, sums: Sums) -> Stream
     ensures { result ≡ next_stream s width height weights sums }
 {
+    let seen = Stream {
+        has_previous: true,
+        ..fresh_stream(width, height)
+    };
     if is_scored(s, width, height) {
         let deltas = components(sums);
-        let value = score::score(deltas, weights);
-        return Stream {
-            has_previous: true,
-            last_score: MaybeScore::Some(value),
-            last_components: MaybeComponents::Some(deltas),
-            width: width,
-            height: height,
-        };
-    }
-    Stream {
-        has_previous: true,
-        last_score: MaybeScore::None,
-        last_components: MaybeComponents::None,
-        width: width,
-        height: height,
+        Stream {
+            last_score: Some(score::score(deltas, weights)),
+            last_components: Some(deltas),
+            ..seen
+        }
+    } else {
+        seen
     }
 }
 
 // The components that an answer shows: four times 0.0 where there are none.
-pub fn components_shown(c: MaybeComponents) -> Components
+#[tactic(auto, using(score::proofs::Literals::literals))]
+pub fn components_shown(c: Option<Components>) -> Components
     ensures { result ≡ components_shown c }
 {
-    match c {
-        MaybeComponents::None => Components {
-            delta_hue: 0.0,
-            delta_sat: 0.0,
-            delta_lum: 0.0,
-            delta_edges: 0.0,
-        },
-        MaybeComponents::Some(shown) => shown,
-    }
+    c.unwrap_or(Components::new(0.0, 0.0, 0.0, 0.0))
 }
 
 // Refusals 12 to 14, by the lengths of the lent memories, for a frame whose sides are at most 4,096.
+// Kept: plain parameters, as the frame calls have (RULES 16.1); that the sides are at most 4,096 is what the check of the frame ensured before.
 #[tactic(auto, unfolding(crate::specs::Stream::memory_refusal))]
-pub fn memory_refusal(
+pub fn check_memory(
     store: usize,
     scratch: usize,
     magnitudes: usize,
     width: u32,
     height: u32,
-) -> u32
+) -> Result<(), Refusal>
     requires { (width ≤ 4096) × (height ≤ 4096) }
-    ensures { result ≡ memory_refusal store scratch magnitudes width height }
+    ensures { number_in result ≡ memory_refusal store scratch magnitudes width height }
 {
     let w = width as usize;
     let h = height as usize;
     let n = w * h;
     if store < 4 * n {
-        return 12;
+        Err(Refusal::StoreTooShort)
+    } else if scratch < 7 * n + 2 * w.max(h) {
+        Err(Refusal::ScratchTooShort)
+    } else if magnitudes < n {
+        Err(Refusal::MagnitudesTooShort)
+    } else {
+        Ok(())
     }
-    if scratch < 7 * n + 2 * w.max(h) {
-        return 13;
-    }
-    if magnitudes < n {
-        return 14;
-    }
-    0
 }

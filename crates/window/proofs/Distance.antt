@@ -1,14 +1,14 @@
 -- From clear to clear the cuts keep the distance, whatever the clock does. Assumes nothing.
+use Rattle.std.proofs.Common.{None, Option, Some}
 use Prim.Native.Nat.{ℕ}
 use mathlib.Core.Path.{◌≡◌, refl}
 use mathlib.Core.Bool.{Bool, true, false, cond, ◌&&◌}
 use mathlib.Core.List.{List, [], ◌∷◌}
 use lib.Ieee.{Float}
 use lib.IntN.{ℤ}
-use Rattle.laws.proofs.Whole.{whole}
+use native.Mathlib.Omega.{arith}
+use Rattle.std.proofs.lemmas.Int.{ints}
 use Rattle.timestamp.specs.declared.Timestamp.{Timestamp}
-use Rattle.timestamp.specs.declared.MaybeTimestamp.{MaybeTimestamp}
-use Rattle.timestamp.specs.declared.MaybeTimestamp.TheVariants.{None, At}
 use Rattle.filter.specs.Flash.{seeded, min_length_met, cut_if}
 use Rattle.laws.specs.Lists.{All}
 use Rattle.filter.specs.Claim.{KeepsDistance, cuts_in}
@@ -26,31 +26,31 @@ module _ (o : WindowOptions) where
   d = o.min_duration
 
   -- the cuts that may follow, by what the distance is counted from
-  abbrev Counted : MaybeTimestamp → List ℤ → Type 0
+  abbrev Counted : Option Timestamp → List ℤ → Type 0
   Counted None cs = KeepsDistance d cs
-  Counted (At t) cs = Chain d t.micros cs
+  Counted (Some t) cs = Chain d t.micros cs
 
-  counted_none : (last : MaybeTimestamp) → Counted last []
+  counted_none : (last : Option Timestamp) → Counted last []
   counted_none None = tt
-  counted_none (At t) = tt
+  counted_none (Some t) = tt
 
   -- what follows a step may follow, with the step's answer before it, what was before the step
-  abbrev Goes : MaybeTimestamp → WindowStep → Type 0
-  Goes last r = (rest : List MaybeTimestamp) → Counted r.window.last_cut_ts (cuts_in rest) → Counted last (cuts_in (r.cut ∷ rest))
+  abbrev Goes : Option Timestamp → WindowStep → Type 0
+  Goes last r = (rest : List (Option Timestamp)) → Counted r.window.last_cut_ts (cuts_in rest) → Counted last (cuts_in (r.cut ∷ rest))
 
   -- ---- a step
 
-  module _ (ts : Timestamp) (above : Bool) (rest : List MaybeTimestamp) where
-    by-cuts : (last : MaybeTimestamp) → let from : Timestamp = seeded (suppressing o) last ts in
+  module _ (ts : Timestamp) (above : Bool) (rest : List (Option Timestamp)) where
+    by-cuts : (last : Option Timestamp) → let from : Timestamp = seeded (suppressing o) last ts in
         (b : Bool) → (above && min_length_met (suppressing o) from ts) ≡ b
-        → Counted (At (cond b ts from)) (cuts_in rest) → Counted last (cuts_in (cut_if b ts ∷ rest))
+        → Counted (Some (cond b ts from)) (cuts_in rest) → Counted last (cuts_in (cut_if b ts ∷ rest))
     unfolding seeded min_length_met
     by-cuts None true e k = chain-keeps d ts.micros (cuts_in rest) k
     by-cuts None false e k = chain-distance d (seeded (suppressing o) None ts).micros (cuts_in rest) k
-    by-cuts (At t) true e k =
+    by-cuts (Some t) true e k =
         let met = (and-true above (min_length_met (suppressing o) t ts) e).1 in
-        (omega (whole, met), k)
-    by-cuts (At t) false e k = k
+        (grind (arith, ints, met), k)
+    by-cuts (Some t) false e k = k
 
   judged-goes : (s : Window) → Goes s.last_cut_ts (judged o s)
   unfolding judged
@@ -59,7 +59,7 @@ module _ (o : WindowOptions) where
       let met = threshold_met o target (ratio_of o target (average o s.buffer_sum target)) in
       by-cuts (target_stamp o s) met rest s.last_cut_ts _ refl k
 
-  either : (last : MaybeTimestamp) (b : Bool) (p q : WindowStep) → Goes last p → Goes last q → Goes last (cond b p q)
+  either : (last : Option Timestamp) (b : Bool) (p q : WindowStep) → Goes last p → Goes last q → Goes last (cond b p q)
   either last true p q h k = h
   either last false p q h k = k
 
@@ -73,15 +73,15 @@ module _ (o : WindowOptions) where
 
   -- ---- the parts of a run: the first counts from what the state has, each other from nothing
 
-  abbrev From : MaybeTimestamp → List (List MaybeTimestamp) → Type 0
+  abbrev From : Option Timestamp → List (List (Option Timestamp)) → Type 0
   From last [] = Unit {0}
   From last (p ∷ ps) = Counted last (cuts_in p) × All (PartKeeps o) ps
 
-  from-joined : (last : MaybeTimestamp) (r : WindowStep) (ps : List (List MaybeTimestamp)) → Goes last r → From r.window.last_cut_ts ps → From last (joined_part r.cut ps)
+  from-joined : (last : Option Timestamp) (r : WindowStep) (ps : List (List (Option Timestamp))) → Goes last r → From r.window.last_cut_ts ps → From last (joined_part r.cut ps)
   from-joined last r [] g k = (g [] (counted_none r.window.last_cut_ts), tt)
   from-joined last r (p ∷ ps) g k = (g p k.0, k.1)
 
-  from-fresh : (ps : List (List MaybeTimestamp)) → From fresh.last_cut_ts ps → All (PartKeeps o) ps
+  from-fresh : (ps : List (List (Option Timestamp))) → From fresh.last_cut_ts ps → All (PartKeeps o) ps
   unfolding fresh
   from-fresh [] k = tt
   from-fresh (p ∷ ps) k = k

@@ -1,4 +1,5 @@
 -- Instances of the definitions, computed.
+use Rattle.std.proofs.Common.{Option, Some}
 use Prim.Native.Nat.{ℕ, suc}
 use mathlib.Core.Path.{◌≡◌, refl}
 use mathlib.Core.Bool.{true, false}
@@ -8,8 +9,6 @@ use lib.IntN.{pos}
 use lib.ListN.{take}
 use Rattle.laws.specs.Floats.{float}
 use Rattle.timestamp.specs.Stamps.{saturating_sub}
-use Rattle.score.specs.declared.MaybeScore.{MaybeScore}
-use Rattle.score.specs.declared.MaybeScore.TheVariants.{Some}
 use Rattle.filter.specs.Flash.{virtual_seed, seeded, min_length_met}
 use Rattle.filter.specs.Claim.{cuts_in}
 use Rattle.window.specs.declared.WindowOptions.{WindowOptions}
@@ -28,7 +27,7 @@ from : ℕ → List Float → Window → Window
 from t [] s = s
 from t (x ∷ xs) s = from (suc t) xs (push_and_check options s (record { micros = pos t }) x).window
 
-ratio : Float → Float → Float → MaybeScore
+ratio : Float → Float → Float → Option Float
 ratio a b c = (from 0 (a ∷ b ∷ c ∷ []) fresh).last_adaptive_ratio
 
 -- scores 1, 30, 1 give ratio 30; 0, 30, 0 give 255; 0, 10, 0 give 0

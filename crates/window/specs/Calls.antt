@@ -1,8 +1,7 @@
 -- A list of calls on one adaptive detector, as its window sees them (RULES 9.4, 9.11, 14.5). Each of the detector's own calls is one of these:
 -- a frame call that it accepts is `scored` here, or `unscored` where it starts a stretch, whatever the pixels were.
-use Rattle.std.specs.Prelude.{List, [], ◌∷◌, Float}
+use Rattle.std.specs.Prelude.{List, [], ◌∷◌, Float, Option}
 use Rattle.timestamp.specs.declared.Timestamp.{Timestamp}
-use Rattle.timestamp.specs.declared.MaybeTimestamp.{MaybeTimestamp}
 use Rattle.window.specs.declared.WindowOptions.{WindowOptions}
 use Rattle.window.specs.declared.Window.{Window}
 use Rattle.window.specs.declared.WindowStep.{WindowStep}
@@ -29,10 +28,10 @@ pub data Answered (A : Type 0) : Type 0 where
   ◌brought◌ : WindowCall → A → Answered A
 
 -- each call gets the state that the last one returned (RULES 14.5)
-abbrev pub window_run_from : WindowOptions → Window → List WindowCall → List (Answered MaybeTimestamp)
+abbrev pub window_run_from : WindowOptions → Window → List WindowCall → List (Answered (Option Timestamp))
 window_run_from o s [] = []
 window_run_from o s (c ∷ cs) = (c brought (turn o s c).cut) ∷ window_run_from o (turn o s c).window cs
 
 -- a list of calls, from a fresh state (RULES 14.5)
-abbrev pub window_run : WindowOptions → List WindowCall → List (Answered MaybeTimestamp)
+abbrev pub window_run : WindowOptions → List WindowCall → List (Answered (Option Timestamp))
 window_run o calls = window_run_from o fresh calls

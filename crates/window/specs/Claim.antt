@@ -1,11 +1,11 @@
 -- What holds of every list of adaptive calls, as the window sees them: from `clear` to `clear` the cuts keep the distance, over changes of size
 -- too, whatever the stamps do (RULES 14.12). Everything here is said of the calls and their answers alone, and nothing of the detector's state.
-use Rattle.std.specs.Prelude.{◌≡◌, Bool, true, false, List, [], ◌∷◌}
-use Rattle.timestamp.specs.declared.MaybeTimestamp.{MaybeTimestamp}
+use Rattle.std.specs.Prelude.{◌≡◌, Bool, true, false, List, [], ◌∷◌, Option}
 use Rattle.laws.specs.Lists.{leave_out, All}
 use Rattle.filter.specs.Claim.{cuts_in, KeepsDistance}
 use Rattle.window.specs.declared.WindowOptions.{WindowOptions}
 use Rattle.window.specs.Calls.{WindowCall, refused, unscored, scored, clear, Answered, ◌brought◌, window_run}
+use Rattle.timestamp.specs.declared.Timestamp.{Timestamp}
 
 -- ---- refused calls left out (RULES 14.6)
 
@@ -43,11 +43,11 @@ from_clear_to_clear ((clear brought a) ∷ xs) = (a ∷ []) ∷ from_clear_to_cl
 -- ---- the claim
 
 -- the cuts of a part keep the distance: each is at least the minimum past the one before (RULES 14.8)
-abbrev pub PartKeeps : WindowOptions → List MaybeTimestamp → Type 0
+abbrev pub PartKeeps : WindowOptions → List (Option Timestamp) → Type 0
 PartKeeps o answers = KeepsDistance o.min_duration (cuts_in answers)
 
 -- the claim about calls and what they brought: from `clear` to `clear` the cuts keep the distance (RULES 14.12)
-abbrev pub PartsHold : WindowOptions → List (Answered MaybeTimestamp) → Type 0
+abbrev pub PartsHold : WindowOptions → List (Answered (Option Timestamp)) → Type 0
 PartsHold o xs = All (PartKeeps o) (from_clear_to_clear xs)
 
 -- the claim about a list of calls from a fresh state

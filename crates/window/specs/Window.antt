@@ -1,13 +1,10 @@
 -- The rule of the adaptive detector's window (RULES 9.3 to 9.10), by the branches of the Rust's `push_and_check`. A scored frame comes as its
 -- stamp and its score.
-use Rattle.std.specs.Prelude.{ℕ, ◌+◌, ◌*◌, min, Bool, false, cond, ◌&&◌, List, ◌++◌, leb, Float, pos, get_or, take, drop, set, replicate}
+use Rattle.std.specs.Prelude.{ℕ, ◌+◌, ◌*◌, min, Bool, false, cond, ◌&&◌, List, ◌++◌, leb, Float, pos, get_or, take, drop, set, replicate, None, Option, Some}
 use Rattle.std.specs.Float.{nan, binary64}
 use Rattle.std.specs.Float.Ieee.{add, sub, div, lt, le, is_nan}
 use Rattle.laws.specs.Floats.{float}
 use Rattle.timestamp.specs.declared.Timestamp.{Timestamp}
-use Rattle.timestamp.specs.declared.MaybeTimestamp.{MaybeTimestamp}
-use Rattle.timestamp.specs.declared.MaybeTimestamp.TheVariants.{None, At}
-use Rattle.score.specs.declared.MaybeScore.TheVariants as score
 use Rattle.score.specs.Floats.{abs_of}
 use Rattle.filter.specs.declared.FilterMode.TheVariants.{Suppress}
 use Rattle.filter.specs.declared.FilterOptions.{FilterOptions}
@@ -18,7 +15,7 @@ use Rattle.window.specs.declared.Window.{Window}
 use Rattle.window.specs.declared.WindowStep.{WindowStep}
 
 -- a window without scores, whose distance is counted from this stamp, or from the seed if there is none
-abbrev pub empty_from : MaybeTimestamp → Window
+abbrev pub empty_from : Option Timestamp → Window
 empty_from last =
     record {
       stamps = replicate 129 (pos 0);
@@ -26,8 +23,8 @@ empty_from last =
       count = 0;
       buffer_sum = float 0;
       last_cut_ts = last;
-      last_adaptive_ratio = score.None;
-      last_target_score = score.None;
+      last_adaptive_ratio = None;
+      last_target_score = None;
     }
 
 -- a fresh window: 129 stamps and 129 scores, all zero, none of them counted (RULES 9.3)
@@ -127,7 +124,7 @@ abbrev pub suppressing : WindowOptions → FilterOptions
 suppressing o = record { filter_mode = Suppress; min_duration = o.min_duration; initial_cut = o.initial_cut }
 
 -- a filter that counts the distance from this stamp, or from the seed if there is none
-abbrev pub counted_from : MaybeTimestamp → Filter
+abbrev pub counted_from : Option Timestamp → Filter
 counted_from last = record { last_above = last; merge_enabled = false; merge_triggered = false; merge_start = None }
 
 -- The target's ratio and score are kept. The target is a cut, at its own stamp, if the threshold is met and its stamp is at least the minimum
@@ -145,9 +142,9 @@ judged o s =
         scores = s.scores;
         count = s.count;
         buffer_sum = s.buffer_sum;
-        last_cut_ts = At (cond cuts ts last);
-        last_adaptive_ratio = score.Some ratio;
-        last_target_score = score.Some target;
+        last_cut_ts = Some (cond cuts ts last);
+        last_adaptive_ratio = Some ratio;
+        last_target_score = Some target;
       };
       cut = cut_if cuts ts;
     }

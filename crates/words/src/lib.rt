@@ -1,60 +1,62 @@
 // Numbers, doubles, stamps and values that may be missing as words of 64 bits, and back: what the records that a station lends are written
 // in. Nothing is required of a word: each is read as something. What is written reads back.
+// Kept, point 2: a stamp, a score and a kernel's size are three types with a definition each, and a line each here; a trait for them would be longer.
+// Kept, point 4: `flag_word` is the name of a definition, and `short_of` names the low 32 bits for three readers.
 #![tactic(auto)]
 
-ghost use Rattle.std.specs.Prelude.{◌≡◌, true, ◌<◌, ◌%◌, length};
-ghost use Rattle.std.specs.Int.{w64};
-ghost use Rattle.std.proofs.Common.{of_z, to_z};
+ghost use Rattle.std.specs.Prelude.{◌≡◌, ◌≢◌, true, List, ℕ, ◌<◌, ◌%◌, length};
 ghost use Rattle.std.specs.Float.{binary64};
 ghost use Rattle.std.specs.Float.Ieee.{to_bits, of_bits};
-ghost use Rattle.words.specs.Choices.{flag_word, flag_of, stamp_tag, stamp_word, stamp_of, score_tag, score_word, score_of, kernel_tag, kernel_word, kernel_of, components_tag, components_of, components_if};
-ghost use Rattle.stream.specs.Stream.{components_shown};
+ghost use Rattle.timestamp.specs.declared.Timestamp.{Timestamp};
+ghost use Rattle.frame_call.specs.Call.{PictureAnswer};
+ghost use Rattle.words.specs.Choices.{flag_word, flag_of, tag_of, stamp_tag, stamp_word, stamp_of, score_tag, score_word, score_of, kernel_tag, kernel_word, kernel_of, components_of};
 ghost use Rattle.words.specs.Stream.{stream_words, is_stream, stream_of};
 
-use score::{Components, KernelSize, MaybeComponents, MaybeScore};
+use detector::Detect;
+use score::Components;
 use stream::Stream;
-use timestamp::{MaybeTimestamp, Timestamp};
+use timestamp::Timestamp;
+
+// How a detector's state is held in N words: a type that stands for the layout.
+pub trait Recorded<const N: usize> {
+    type State: Detect;
+
+    // The words of a state.
+    ghost words_of: { Self.State → List ℕ };
+
+    // The state that words hold.
+    ghost held_by: { List ℕ → Self.State };
+
+    // The state that the words hold. Any N words are read.
+    fn read(w: &[u64; N]) -> Self::State
+        ensures { result ≡ held_by w.now };
+
+    // Writes a state, which reads back.
+    fn write(d: Self::State, out: &mut [u64; N])
+        ensures after { out.new ≡ words_of d }
+        ensures back { held_by out.new ≡ d };
+
+    // The answer to an accepted frame has no refusal's number.
+    ghost accepted: { (d : Self.State) (ts : Timestamp) (p : PictureAnswer) → (Self.State.stepped d ts p).number ≡ 0 };
+
+    // Where `clear` is refused, it gives the state back.
+    ghost stays: { (d : Self.State) → (Self.State.cleared d).number ≢ 0 → (Self.State.cleared d).detector ≡ d };
+}
 
 // A double's bit pattern. A NaN has one.
+#[tactic(auto, using(crate::proofs::Doubles::bits_back))]
 pub fn float_word(x: f64) -> u64
     ensures value { result ≡ to_bits binary64 x }
     ensures result_value { of_bits binary64 result ≡ x }
 {
-    if x == x {
-        return f64::to_bits(x);
-    }
-    9221120237041090560
+    std::num::f64_to_bits_with_nan(x)
 }
 
 // The double of a bit pattern. Every NaN's pattern is read as the NaN.
-#[tactic(auto, using(crate::proofs::Doubles::nan_read, crate::proofs::Doubles::number_read))]
 pub fn float_of(w: u64) -> f64
     ensures { result ≡ of_bits binary64 w }
 {
-    if 9218868437227405312 < w % 9223372036854775808 {
-        return 0.0 / 0.0;
-    }
-    f64::from_bits(w)
-}
-
-// A signed number in two's complement.
-pub fn signed_word(z: i64) -> u64
-    ensures value { result ≡ of_z w64 z }
-    ensures result_value { to_z w64 result ≡ z }
-{
-    if z < 0 {
-        return 18446744073709551615 - (-1 - z) as u64;
-    }
-    z as u64
-}
-
-pub fn signed_of(w: u64) -> i64
-    ensures { result ≡ to_z w64 w }
-{
-    if w < 9223372036854775808 {
-        return w as i64;
-    }
-    -1 - (18446744073709551615 - w) as i64
+    std::num::f64_from_bits_with_nan(w)
 }
 
 // The low 32 bits.
@@ -68,10 +70,7 @@ pub fn flag_word(b: bool) -> u64
     ensures value { result ≡ flag_word b }
     ensures result_value { flag_of result ≡ b }
 {
-    if b {
-        return 1;
-    }
-    0
+    u64::from(b)
 }
 
 pub fn flag_of(w: u64) -> bool
@@ -80,115 +79,56 @@ pub fn flag_of(w: u64) -> bool
     w == 1
 }
 
-// A stamp that may be missing: whether it is there, and its number or 0.
-pub fn stamp_tag(t: MaybeTimestamp) -> u64
-    ensures { result ≡ stamp_tag t }
+// The tag of a value that may be missing: 1 where it is there, otherwise 0.
+// Kept: `station_answer::has` gives it to C in 32 bits, by a line like this one.
+pub fn tag<T: Copy>(o: Option<T>) -> u64
+    ensures { result ≡ tag_of o }
 {
-    match t {
-        MaybeTimestamp::None => 0,
-        MaybeTimestamp::At(_) => 1,
-    }
+    u64::from(o.is_some())
 }
 
-pub fn stamp_word(t: MaybeTimestamp) -> u64
+// A stamp that may be missing: its number, or 0.
+pub fn stamp_word(t: Option<Timestamp>) -> u64
     ensures value { result ≡ stamp_word t }
     ensures result_value { stamp_of (stamp_tag t) result ≡ t }
 {
-    match t {
-        MaybeTimestamp::None => 0,
-        MaybeTimestamp::At(ts) => signed_word(ts.micros),
-    }
+    t.map_or(0, |ts| ts.micros.cast_unsigned())
 }
 
-pub fn stamp_of(tag: u64, w: u64) -> MaybeTimestamp
+pub fn stamp_of(tag: u64, w: u64) -> Option<Timestamp>
     ensures { result ≡ stamp_of tag w }
 {
-    if tag == 1 {
-        return MaybeTimestamp::At(Timestamp {
-            micros: signed_of(w),
-        });
-    }
-    MaybeTimestamp::None
+    flag_of(tag).then(|| Timestamp {
+        micros: w.cast_signed(),
+    })
 }
 
-// A score that may be missing: whether it is there, and its bit pattern or 0.
-pub fn score_tag(s: MaybeScore) -> u64
-    ensures { result ≡ score_tag s }
-{
-    match s {
-        MaybeScore::None => 0,
-        MaybeScore::Some(_) => 1,
-    }
-}
-
-pub fn score_word(s: MaybeScore) -> u64
+// A score that may be missing: its bit pattern, or 0.
+pub fn score_word(s: Option<f64>) -> u64
     ensures value { result ≡ score_word s }
     ensures result_value { score_of (score_tag s) result ≡ s }
 {
-    match s {
-        MaybeScore::None => 0,
-        MaybeScore::Some(x) => float_word(x),
-    }
+    s.map_or(0, float_word)
 }
 
-pub fn score_of(tag: u64, w: u64) -> MaybeScore
+pub fn score_of(tag: u64, w: u64) -> Option<f64>
     ensures { result ≡ score_of tag w }
 {
-    if tag == 1 {
-        return MaybeScore::Some(float_of(w));
-    }
-    MaybeScore::None
+    flag_of(tag).then(|| float_of(w))
 }
 
-// A kernel's size: whether it is set, and the size or 0.
-pub fn kernel_tag(k: KernelSize) -> u64
-    ensures { result ≡ kernel_tag k }
-{
-    match k {
-        KernelSize::Auto => 0,
-        KernelSize::Set(_) => 1,
-    }
-}
-
-pub fn kernel_word(k: KernelSize) -> u64
+// A kernel's size: the size, or 0 where it is not set.
+pub fn kernel_word(k: Option<u32>) -> u64
     ensures value { result ≡ kernel_word k }
     ensures result_value { (kernel_of (kernel_tag k) result ≡ k) × (result < 4294967296) }
 {
-    match k {
-        KernelSize::Auto => 0,
-        KernelSize::Set(n) => n as u64,
-    }
+    k.map_or(0, u64::from)
 }
 
-pub fn kernel_of(tag: u64, w: u64) -> KernelSize
+pub fn kernel_of(tag: u64, w: u64) -> Option<u32>
     ensures { result ≡ kernel_of tag w }
 {
-    if tag == 1 {
-        return KernelSize::Set(short_of(w));
-    }
-    KernelSize::Auto
-}
-
-// dst becomes src.
-pub fn copy(dst: &mut [u64], src: &[u64])
-    requires { length dst.old ≡ length src.now }
-    ensures { dst.new ≡ src.now }
-{
-    let mut i = 0;
-    while i < src.len() {
-        dst[i] = src[i];
-        i += 1;
-    }
-}
-
-// Components that may be missing: whether they are there.
-pub fn components_tag(c: MaybeComponents) -> u64
-    ensures { result ≡ components_tag c }
-{
-    match c {
-        MaybeComponents::None => 0,
-        MaybeComponents::Some(_) => 1,
-    }
+    flag_of(tag).then(|| short_of(w))
 }
 
 // Four doubles by their words.
@@ -203,37 +143,29 @@ pub fn components_of(hue: u64, sat: u64, lum: u64, edges: u64) -> Components
     }
 }
 
-pub fn maybe_components(tag: u64, c: Components) -> MaybeComponents
-    ensures { result ≡ components_if (flag_of tag) c }
-{
-    if tag == 1 {
-        return MaybeComponents::Some(c);
-    }
-    MaybeComponents::None
-}
-
 // What both detectors keep of the stream, in ten words.
+#[tactic(auto, using(crate::proofs::Made::reads), unfolding(crate::specs::Stream::stream_words, crate::specs::Stream::is_stream, crate::specs::Stream::stream_of))]
 pub fn stream_words(s: Stream) -> [u64; 10]
     ensures value { result ≡ stream_words s }
     ensures result_value { (is_stream result ≡ true) × (stream_of result ≡ s) }
 {
-    let last_score = s.last_score;
-    let last_components = s.last_components;
-    let shown = stream::components_shown(last_components);
-    let w0 = flag_word(s.has_previous);
-    let w1 = score_tag(last_score);
-    let w2 = score_word(last_score);
-    let w3 = components_tag(last_components);
-    let w4 = float_word(shown.delta_hue);
-    let w5 = float_word(shown.delta_sat);
-    let w6 = float_word(shown.delta_lum);
-    let w7 = float_word(shown.delta_edges);
-    let w8 = s.width as u64;
-    let w9 = s.height as u64;
-    [w0, w1, w2, w3, w4, w5, w6, w7, w8, w9]
+    let shown = stream::components_shown(s.last_components);
+    [
+        flag_word(s.has_previous),
+        tag(s.last_score),
+        score_word(s.last_score),
+        tag(s.last_components),
+        float_word(shown.delta_hue),
+        float_word(shown.delta_sat),
+        float_word(shown.delta_lum),
+        float_word(shown.delta_edges),
+        s.width as u64,
+        s.height as u64,
+    ]
 }
 
 // Whether ten words are those of a stream.
+#[tactic(auto, unfolding(crate::specs::Stream::is_stream))]
 pub fn is_stream(w: &[u64]) -> bool
     requires { length w.now ≡ 10 }
     ensures { result ≡ is_stream w.now }
@@ -241,17 +173,16 @@ pub fn is_stream(w: &[u64]) -> bool
     (w[0] <= 1) & (w[1] <= 1) & (w[3] <= 1) & (w[8] < 4294967296) & (w[9] < 4294967296)
 }
 
+#[tactic(auto, unfolding(crate::specs::Stream::stream_of))]
 pub fn stream_of(w: &[u64]) -> Stream
     requires { length w.now ≡ 10 }
     ensures { result ≡ stream_of w.now }
 {
     let shown = components_of(w[4], w[5], w[6], w[7]);
-    let last_score = score_of(w[1], w[2]);
-    let last_components = maybe_components(w[3], shown);
     Stream {
         has_previous: flag_of(w[0]),
-        last_score: last_score,
-        last_components: last_components,
+        last_score: score_of(w[1], w[2]),
+        last_components: flag_of(w[3]).then_some(shown),
         width: short_of(w[8]),
         height: short_of(w[9]),
     }

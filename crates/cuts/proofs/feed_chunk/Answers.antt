@@ -7,7 +7,7 @@ use lib.ListN.{length, take, drop}
 use Rattle.session.specs.Feeding.{State, fed}
 use Rattle.session.specs.Sessions.{state_of}
 use Rattle.session.specs.Promises.{Feeds, Filled}
-use Rattle.session.proofs.Feeding.{rest-length, feeds-some, fed_then}
+use Rattle.session.proofs.Feeding.{part-size, feeds-some, fed_then}
 use Rattle.cuts.proofs.feed_chunk.Goals as goal
 
 -- what a turn leaves that begins after the first a bytes
@@ -19,33 +19,33 @@ record Turn (s : State) (chunk : List ℕ) (s' : State) (a t : ℕ) : Type 0 whe
 turn : (s s' s'' : State) (chunk : List ℕ) {out out' : List ℕ} (a : ℕ) {t w : ℕ} → s' ≡ fed s (take a chunk) → let rest = take (length chunk - a) (drop a chunk) in
     Feeds s' rest out 0 s'' out' t w → Filled rest out 0 t w → 64 ≤ length out → a < length chunk → Turn s chunk s'' a t
 turn s s' s'' chunk {out} {out'} a {t} {w} before f g room more =
-    let size = rest-length a chunk in
+    let size = part-size a (length chunk) chunk (omega arith) in
     record {
       within = omega (arith, f.within);
       some = feeds-some s' s'' (take (length chunk - a) (drop a chunk)) out out' t w f g room (omega arith);
       state = fed_then s s' s'' chunk a (length chunk - a) t before f.within f.state;
     }
 
-pub loop-a-init : goal.loop-a-init
+pub loop-taken-init : goal.loop-taken-init
 unfolding fed
-loop-a-init g c = (refl, omega arith, refl)
+loop-taken-init g c = (omega arith, refl)
 
-pub loop-a-smaller : goal.loop-a-smaller
-loop-a-smaller g c =
-    let v = c.loop-a.invariant in
+pub loop-taken-smaller : goal.loop-taken-smaller
+loop-taken-smaller g c =
+    let v = c.loop-taken.invariant in
     let f = c.feed-f in
     let t =
-    turn (state_of c.args.s c.args.line.now c.args.store.now) (state_of c.loop-a.state c.loop-a.line c.loop-a.store) (state_of f.result.session f.new.line f.new.store) c.args.chunk.now c.loop-a.a
-    v.2 f.ensures.feeds f.ensures.filled (omega (arith, v.0, c.requires)) c.loop-a-test.true
+    turn (state_of c.args.session.now) (state_of c.loop-taken.session) (state_of f.new.self) c.args.chunk.now c.loop-taken.taken
+    v.1 f.ensures.feeds f.ensures.filled (omega arith) c.loop-taken-test.true
     in
     omega (arith, t.within, t.some)
 
-pub loop-a-preserved : goal.loop-a-preserved
-loop-a-preserved g c =
-    let v = c.loop-a.invariant in
+pub loop-taken-preserved : goal.loop-taken-preserved
+loop-taken-preserved g c =
+    let v = c.loop-taken.invariant in
     let f = c.feed-f in
     let t =
-    turn (state_of c.args.s c.args.line.now c.args.store.now) (state_of c.loop-a.state c.loop-a.line c.loop-a.store) (state_of f.result.session f.new.line f.new.store) c.args.chunk.now c.loop-a.a
-    v.2 f.ensures.feeds f.ensures.filled (omega (arith, v.0, c.requires)) c.loop-a-test.true
+    turn (state_of c.args.session.now) (state_of c.loop-taken.session) (state_of f.new.self) c.args.chunk.now c.loop-taken.taken
+    v.1 f.ensures.feeds f.ensures.filled (omega arith) c.loop-taken-test.true
     in
-    (omega (arith, f.auto.out, v.0), t.within, t.state)
+    (t.within, t.state)

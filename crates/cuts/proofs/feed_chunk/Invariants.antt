@@ -6,9 +6,8 @@ use Rattle.session.specs.Feeding.{fed}
 use Rattle.session.specs.Sessions.{state_of}
 use Rattle.cuts.proofs.feed_chunk.Given as goal
 
-abbrev pub invariant-loop-a : goal.invariant-loop-a
-invariant-loop-a g l =
-    (length l.out ≡ length l.initial.out) × (l.a ≤ length l.chunk) × (state_of l.state l.line l.store ≡ fed (state_of l.initial.state l.initial.line l.initial.store) (take l.a l.chunk))
+abbrev pub invariant-loop-taken : goal.invariant-loop-taken
+invariant-loop-taken g l = (l.taken ≤ length l.chunk) × (state_of l.session ≡ fed (state_of l.initial.session) (take l.taken l.chunk))
 
-abbrev pub decreases-loop-a : goal.decreases-loop-a
-decreases-loop-a g l = length l.chunk - l.a
+abbrev pub decreases-loop-taken : goal.decreases-loop-taken
+decreases-loop-taken g l = length l.chunk - l.taken

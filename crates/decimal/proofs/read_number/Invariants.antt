@@ -1,11 +1,6 @@
--- `decimal::read_number` meets its contract. The invariant: the value is the number of the digits before i. Assumes nothing.
-use Prim.Native.Nat.{◌-◌}
-use lib.ListN.{length}
+-- `decimal::read_number` meets its contract. The invariant: the value is the number of the digits before b. Assumes nothing.
 use Rattle.decimal.proofs.Numbers.{Read}
 use Rattle.decimal.proofs.read_number.Given as goal
 
-abbrev pub invariant-loop-i : goal.invariant-loop-i
-invariant-loop-i l = Read l.most l.part l.value l.i
-
-abbrev pub decreases-loop-i : goal.decreases-loop-i
-decreases-loop-i l = length l.part - l.i
+abbrev pub invariant-loop-b : goal.invariant-loop-b
+invariant-loop-b l = Read l.most l.part l.value l.b-index

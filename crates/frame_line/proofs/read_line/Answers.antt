@@ -1,114 +1,180 @@
--- `frame_line::read_line` meets its contract: each test in the order of the definition. Assumes nothing.
 use mathlib.Core.Path.{◌≡◌, sym, ◌∙◌}
-use mathlib.Core.Bool.{true, false, not}
-use mathlib.Core.List.{List}
-use Prim.Native.Nat.{ℕ}
+use mathlib.Core.List.{◌∷◌}
+use Prim.Native.Nat.{◌*◌}
 use native.Mathlib.Omega.{arith}
-use borrow.Author.Tests.{not-true, not-false}
-use lib.ListN.{take}
+use borrow.Author.Tests.{tests}
+use Rattle.std.proofs.Common.{rules}
 use lib.Seq.{length-take-le}
 use Rattle.laws.proofs.Products.{product_le}
-use Rattle.decimal.specs.declared.Stamp.{Stamp}
-use Rattle.decimal.specs.Reading.{is_stamp, stamp_read}
-use Rattle.frame_line.specs.declared.Field.{Field}
-use Rattle.frame_line.specs.Steps.{end_of, next_number}
-use Rattle.frame_line.proofs.Walk.{Took, took, missed}
-use Rattle.frame_line.proofs.Lines.{Sides, sides, first_field, first-within, says_none, too_long, no-stamp, no-width, height-missed, width_small, height-small, pixels-missed, values-missed, says-sides, stamp-ok, stamp-is}
+use Rattle.decimal.proofs.Numbers.{number-within}
+use Rattle.frame_line.specs.Line.{fields}
+use Rattle.frame_line.proofs.Fields.{left, start, next-some, next_none, none_left, some-left}
+use Rattle.frame_line.proofs.Values.{taken_none, taken_more, taken_bad, taken-long, taken-short, taken-all, taken-luma}
+use Rattle.frame_line.proofs.Lines.{too_long, no-stamp, no-second, no-width, no-third, no-height, Head, no-pixels, no-values, says-frame, says-luma}
 use Rattle.frame_line.proofs.read_line.Goals as goal
 
--- the stamp, where there is one
-stamped : (part : List ℕ) (s : Stamp) → s ≡ stamp_read part → not s.ok ≡ false → is_stamp part ≡ true
-stamped part s read ok = sym (stamp-ok part s read) ∙ not-false _ ok
+pub returns-then-line-gt-MOST_BYTES-clause-value : goal.returns-then-line-gt-MOST_BYTES-clause-value
+returns-then-line-gt-MOST_BYTES-clause-value c = too_long _ c.if-line-gt-MOST_BYTES.true
 
--- a width or a height, where there is one
-side : (line : List ℕ) (e : ℕ) (n : Field) → n ≡ next_number 4294967295 line e → not n.ok ≡ false → Took 4294967295 line e n
-side line e n next ok = took 4294967295 line e n next (not-false _ ok)
+pub returns-in_err-stamp-clause-value : goal.returns-in_err-stamp-clause-value
+returns-in_err-stamp-clause-value c =
+    let s₀ = c.split-fields.result in
+    let s₁ = c.next.new.self in
+    let first : fields c.args.line.now ≡ c.in_ok-next.field-0.now ∷ left s₁ =
+    start c.args.line.now s₀ c.split-fields.ensures.rest c.split-fields.ensures.done ∙ next-some _ s₀ s₁ c.in_ok-next.field-0 c.in_ok-next.ensures.steps (λ x b q k. search (rules, tests)) in
+    c.from_residual-in_err-stamp.ensures ∙ no-stamp _ _ _ first (sym c.read_stamp.ensures ∙ c.in_err-stamp.was)
 
--- the stamp's field, the width and the height
-both : (line : List ℕ) (e : ℕ) (w h : Field) → e ≡ end_of line 0 → w ≡ next_number 4294967295 line e → not w.ok ≡ false → h ≡ next_number 4294967295 line w.«end» → not h.ok ≡ false
-    → Sides line (take e line) w h
-both line e w h ends next wide after high =
-    sides line (take e line) e w (first_field line e ends) (side line e w next wide) h (side line w.«end» h after high)
+pub returns-in_err-next-2-clause-value : goal.returns-in_err-next-2-clause-value
+returns-in_err-next-2-clause-value c =
+    let s₀ = c.split-fields.result in
+    let s₁ = c.next.new.self in
+    let first : fields c.args.line.now ≡ c.in_ok-next.field-0.now ∷ left s₁ =
+    start c.args.line.now s₀ c.split-fields.ensures.rest c.split-fields.ensures.done ∙ next-some _ s₀ s₁ c.in_ok-next.field-0 c.in_ok-next.ensures.steps (λ x b q k. search (rules, tests)) in
+    c.from_residual-in_err-next-2.ensures ∙ no-second _ _ _ first (next_none s₁ c.in_err-next-2.ensures.steps.0)
 
-pub returns-then-line-gt-MOST_BYTES : goal.returns-then-line-gt-MOST_BYTES
-returns-then-line-gt-MOST_BYTES c =
-    let s = says_none c.args.line.now c.args.luma.now c.no_frame.result (too_long _ (omega (arith, c.if-line-gt-MOST_BYTES.true))) c.no_frame.ensures in
-    record { value = s.0; luma_after = s.1 }
+pub returns-in_err-width-clause-value : goal.returns-in_err-width-clause-value
+returns-in_err-width-clause-value c =
+    let s₀ = c.split-fields.result in
+    let s₁ = c.next.new.self in
+    let first : fields c.args.line.now ≡ c.in_ok-next.field-0.now ∷ left s₁ =
+    start c.args.line.now s₀ c.split-fields.ensures.rest c.split-fields.ensures.done ∙ next-some _ s₀ s₁ c.in_ok-next.field-0 c.in_ok-next.ensures.steps (λ x b q k. search (rules, tests)) in
+    let s₂ = c.next-2.new.self in
+    let second : fields c.args.line.now ≡ c.in_ok-next.field-0.now ∷ c.in_ok-next-2.field-0.now ∷ left s₂ =
+    rw (next-some _ s₁ s₂ c.in_ok-next-2.field-0 c.in_ok-next-2.ensures.steps (λ x b q k. search (rules, tests))) at first in
+    c.from_residual-in_err-width.ensures ∙ no-width _ _ _ _ second (sym c.read_number.ensures ∙ c.in_err-width.was)
 
-pub slice_bounds-read_stamp-end : goal.slice_bounds-read_stamp-end
-slice_bounds-read_stamp-end c = sym (length-take-le _ _ (first-within _ _ c.field_end-e.ensures))
+pub returns-in_err-next-3-clause-value : goal.returns-in_err-next-3-clause-value
+returns-in_err-next-3-clause-value c =
+    let s₀ = c.split-fields.result in
+    let s₁ = c.next.new.self in
+    let first : fields c.args.line.now ≡ c.in_ok-next.field-0.now ∷ left s₁ =
+    start c.args.line.now s₀ c.split-fields.ensures.rest c.split-fields.ensures.done ∙ next-some _ s₀ s₁ c.in_ok-next.field-0 c.in_ok-next.ensures.steps (λ x b q k. search (rules, tests)) in
+    let s₂ = c.next-2.new.self in
+    let second : fields c.args.line.now ≡ c.in_ok-next.field-0.now ∷ c.in_ok-next-2.field-0.now ∷ left s₂ =
+    rw (next-some _ s₁ s₂ c.in_ok-next-2.field-0 c.in_ok-next-2.ensures.steps (λ x b q k. search (rules, tests))) at first in
+    c.from_residual-in_err-next-3.ensures ∙ no-third _ _ _ _ second (next_none s₂ c.in_err-next-3.ensures.steps.0)
 
-pub returns-then-not-s : goal.returns-then-not-s
-returns-then-not-s c =
-    let r = c.read_stamp-s in
-    let s =
-    says_none c.args.line.now c.args.luma.now c.no_frame-then-not-s.result
-    (no-stamp _ _ _ (first_field _ _ c.field_end-e.ensures) (sym (stamp-ok _ r.result r.ensures) ∙ not-true _ c.if-not-s.true)) c.no_frame-then-not-s.ensures
-    in
-    record { value = s.0; luma_after = s.1 }
-
-pub next_number-w-requires : goal.next_number-w-requires
-next_number-w-requires c = first-within _ _ c.field_end-e.ensures
-
-pub returns-then-not-w : goal.returns-then-not-w
-returns-then-not-w c =
-    let s =
-    says_none c.args.line.now c.args.luma.now c.no_frame-then-not-w.result
-    (no-width _ _ _ (first_field _ _ c.field_end-e.ensures) (missed _ _ _ _ c.next_number-w.ensures (not-true _ c.if-not-w.true))) c.no_frame-then-not-w.ensures
-    in
-    record { value = s.0; luma_after = s.1 }
-
-pub next_number-h-requires : goal.next_number-h-requires
-next_number-h-requires c = (side _ _ _ c.next_number-w.ensures c.if-not-w.false).within
-
-pub returns-then-not-h : goal.returns-then-not-h
-returns-then-not-h c =
-    let s =
-    says_none c.args.line.now c.args.luma.now c.no_frame-then-not-h.result
-    (height-missed _ _ _ _ (first_field _ _ c.field_end-e.ensures) (side _ _ _ c.next_number-w.ensures c.if-not-w.false)
-    (missed _ _ _ _ c.next_number-h.ensures (not-true _ c.if-not-h.true)))
-    c.no_frame-then-not-h.ensures
-    in
-    record { value = s.0; luma_after = s.1 }
+pub returns-in_err-height-clause-value : goal.returns-in_err-height-clause-value
+returns-in_err-height-clause-value c =
+    let s₀ = c.split-fields.result in
+    let s₁ = c.next.new.self in
+    let first : fields c.args.line.now ≡ c.in_ok-next.field-0.now ∷ left s₁ =
+    start c.args.line.now s₀ c.split-fields.ensures.rest c.split-fields.ensures.done ∙ next-some _ s₀ s₁ c.in_ok-next.field-0 c.in_ok-next.ensures.steps (λ x b q k. search (rules, tests)) in
+    let s₂ = c.next-2.new.self in
+    let second : fields c.args.line.now ≡ c.in_ok-next.field-0.now ∷ c.in_ok-next-2.field-0.now ∷ left s₂ =
+    rw (next-some _ s₁ s₂ c.in_ok-next-2.field-0 c.in_ok-next-2.ensures.steps (λ x b q k. search (rules, tests))) at first in
+    let s₃ = c.next-3.new.self in
+    let third : fields c.args.line.now ≡ c.in_ok-next.field-0.now ∷ c.in_ok-next-2.field-0.now ∷ c.in_ok-next-3.field-0.now ∷ left s₃ =
+    rw (next-some _ s₂ s₃ c.in_ok-next-3.field-0 c.in_ok-next-3.ensures.steps (λ x b q k. search (rules, tests))) at second in
+    c.from_residual-in_err-height.ensures ∙ no-height _ _ _ _ _ third (sym c.read_number-2.ensures ∙ c.in_err-height.was)
 
 pub overflow_mul-n : goal.overflow_mul-n
 overflow_mul-n c =
-    let b = both _ _ _ _ c.field_end-e.ensures c.next_number-w.ensures c.if-not-w.false c.next_number-h.ensures c.if-not-h.false in
-    omega (arith, product_le (width_small _ _ _ _ b) (height-small _ _ _ _ b))
+    let w = number-within _ _ _ (sym c.read_number.ensures ∙ c.in_ok-width.was) in
+    let h = number-within _ _ _ (sym c.read_number-2.ensures ∙ c.in_ok-height.was) in
+    omega (arith, product_le w h)
 
-pub returns-then-n : goal.returns-then-n
-returns-then-n c =
-    let b = both _ _ _ _ c.field_end-e.ensures c.next_number-w.ensures c.if-not-w.false c.next_number-h.ensures c.if-not-h.false in
-    let s = says_none c.args.line.now c.args.luma.now c.no_frame-then-n.result (pixels-missed _ _ _ _ b (omega (arith, c.if-n.true))) c.no_frame-then-n.ensures in
-    record { value = s.0; luma_after = s.1 }
+pub returns-then-n-clause-value : goal.returns-then-n-clause-value
+returns-then-n-clause-value c =
+    let s₀ = c.split-fields.result in
+    let s₁ = c.next.new.self in
+    let first : fields c.args.line.now ≡ c.in_ok-next.field-0.now ∷ left s₁ =
+    start c.args.line.now s₀ c.split-fields.ensures.rest c.split-fields.ensures.done ∙ next-some _ s₀ s₁ c.in_ok-next.field-0 c.in_ok-next.ensures.steps (λ x b q k. search (rules, tests)) in
+    let s₂ = c.next-2.new.self in
+    let second : fields c.args.line.now ≡ c.in_ok-next.field-0.now ∷ c.in_ok-next-2.field-0.now ∷ left s₂ =
+    rw (next-some _ s₁ s₂ c.in_ok-next-2.field-0 c.in_ok-next-2.ensures.steps (λ x b q k. search (rules, tests))) at first in
+    let s₃ = c.next-3.new.self in
+    let third : fields c.args.line.now ≡ c.in_ok-next.field-0.now ∷ c.in_ok-next-2.field-0.now ∷ c.in_ok-next-3.field-0.now ∷ left s₃ =
+    rw (next-some _ s₂ s₃ c.in_ok-next-3.field-0 c.in_ok-next-3.ensures.steps (λ x b q k. search (rules, tests))) at second in
+    let head : Head c.args.line.now c.in_ok-stamp.stamp c.in_ok-width.width c.in_ok-height.height (left s₃) =
+    record {
+      stamp = c.in_ok-next.field-0.now;
+      width = c.in_ok-next-2.field-0.now;
+      height = c.in_ok-next-3.field-0.now;
+      split = third;
+      time = sym c.read_stamp.ensures ∙ c.in_ok-stamp.was;
+      across = sym c.read_number.ensures ∙ c.in_ok-width.was;
+      down = sym c.read_number-2.ensures ∙ c.in_ok-height.was;
+    }
+    in
+    no-pixels _ _ _ _ _ head c.if-n.true
 
-pub read_values-requires-clause-from_in_bounds : goal.read_values-requires-clause-from_in_bounds
-read_values-requires-clause-from_in_bounds c = (side _ _ _ c.next_number-h.ensures c.if-not-h.false).within
+pub loop-value-init : goal.loop-value-init
+loop-value-init c =
+    let s₀ = c.split-fields.result in
+    let s₁ = c.next.new.self in
+    let first : fields c.args.line.now ≡ c.in_ok-next.field-0.now ∷ left s₁ =
+    start c.args.line.now s₀ c.split-fields.ensures.rest c.split-fields.ensures.done ∙ next-some _ s₀ s₁ c.in_ok-next.field-0 c.in_ok-next.ensures.steps (λ x b q k. search (rules, tests)) in
+    let s₂ = c.next-2.new.self in
+    let second : fields c.args.line.now ≡ c.in_ok-next.field-0.now ∷ c.in_ok-next-2.field-0.now ∷ left s₂ =
+    rw (next-some _ s₁ s₂ c.in_ok-next-2.field-0 c.in_ok-next-2.ensures.steps (λ x b q k. search (rules, tests))) at first in
+    let s₃ = c.next-3.new.self in
+    let third : fields c.args.line.now ≡ c.in_ok-next.field-0.now ∷ c.in_ok-next-2.field-0.now ∷ c.in_ok-next-3.field-0.now ∷ left s₃ =
+    rw (next-some _ s₂ s₃ c.in_ok-next-3.field-0 c.in_ok-next-3.ensures.steps (λ x b q k. search (rules, tests))) at second in
+    let head : Head c.args.line.now c.in_ok-stamp.stamp c.in_ok-width.width c.in_ok-height.height (left s₃) =
+    record {
+      stamp = c.in_ok-next.field-0.now;
+      width = c.in_ok-next-2.field-0.now;
+      height = c.in_ok-next-3.field-0.now;
+      split = third;
+      time = sym c.read_stamp.ensures ∙ c.in_ok-stamp.was;
+      across = sym c.read_number.ensures ∙ c.in_ok-width.was;
+      down = sym c.read_number-2.ensures ∙ c.in_ok-height.was;
+    }
+    in
+    record { head = head; taken = taken_none _ _ }
 
-pub returns-then-not-read_values : goal.returns-then-not-read_values
-returns-then-not-read_values c =
-    let v = c.read_values in
-    let b = both _ _ _ _ c.field_end-e.ensures c.next_number-w.ensures c.if-not-w.false c.next_number-h.ensures c.if-not-h.false in
-    let s = says_none c.args.line.now v.new.luma c.no_frame-then-not-read_values.result (values-missed _ _ _ _ b v.result v.ensures.value c.if-not-read_values.true) c.no_frame-then-not-read_values.ensures in
-    record { value = s.0; luma_after = s.1 }
+pub returns-in_err-next-4-clause-value : goal.returns-in_err-next-4-clause-value
+returns-in_err-next-4-clause-value c =
+    let I = c.loop-value.invariant in
+    let none = next_none c.loop-value.fields c.in_err-next-4.ensures.steps.0 in
+    let size = length-take-le (c.in_ok-width.width * c.in_ok-height.height) c.args.luma.now (omega (arith, c.if-n.false, c.told-luma)) in
+    c.from_residual-in_err-next-4.ensures ∙ no-values _ _ _ _ _ I.head (taken-short _ _ _ _ I.taken none _ (omega (arith, size, c.loop-value-test.true)))
+
+pub returns-in_err-value-clause-value : goal.returns-in_err-value-clause-value
+returns-in_err-value-clause-value c =
+    let next = next-some _ c.loop-value.fields c.next-in-loop-value.new.self c.in_ok-next-4.field-0 c.in_ok-next-4.ensures.steps (λ x b q k. search (rules, tests)) in
+    let I = c.loop-value.invariant in
+    c.from_residual-in_err-value.ensures ∙ no-values _ _ _ _ _ I.head (taken_bad _ _ _ _ _ _ I.taken next _ (sym c.read_number-in-loop-value.ensures ∙ c.in_err-value.was))
+
+pub overflow_cast-value : goal.overflow_cast-value
+overflow_cast-value c =
+    let small = number-within 255 c.in_ok-value.field-0 _ (sym c.read_number-in-loop-value.ensures ∙ c.in_ok-value.was) in
+    record { fits = omega arith }
+
+pub loop-value-preserved : goal.loop-value-preserved
+loop-value-preserved c =
+    let next = next-some _ c.loop-value.fields c.next-in-loop-value.new.self c.in_ok-next-4.field-0 c.in_ok-next-4.ensures.steps (λ x b q k. search (rules, tests)) in
+    let I = c.loop-value.invariant in
+    record { head = I.head; taken = taken_more _ _ _ _ _ _ I.taken next _ (sym c.read_number-in-loop-value.ensures ∙ c.in_ok-value.was) (omega arith) }
+
+pub returns-then-is_some-clause-value : goal.returns-then-is_some-clause-value
+returns-then-is_some-clause-value c =
+    let I = c.loop-value.invariant in
+    let size = length-take-le (c.in_ok-width.width * c.in_ok-height.height) c.args.luma.now (omega (arith, c.if-n.false, c.told-luma)) in
+    let more = some-left _ c.loop-value.fields c.next-4.new.self c.next-4.result c.next-4.ensures.steps (sym c.is_some.ensures ∙ c.if-is_some.true) (λ x b q k. search (rules, tests)) in
+    no-values _ _ _ _ _ I.head (taken-long _ _ _ _ _ _ I.taken more.1 _ (omega (arith, size, c.loop-value-test.false)))
 
 pub overflow_cast-result : goal.overflow_cast-result
 overflow_cast-result c =
-    let b = both _ _ _ _ c.field_end-e.ensures c.next_number-w.ensures c.if-not-w.false c.next_number-h.ensures c.if-not-h.false in
-    omega (arith, width_small _ _ _ _ b)
+    let small = number-within 4294967295 c.in_ok-width.width _ (sym c.read_number.ensures ∙ c.in_ok-width.was) in
+    record { fits = omega arith }
 
 pub overflow_cast-result-2 : goal.overflow_cast-result-2
 overflow_cast-result-2 c =
-    let b = both _ _ _ _ c.field_end-e.ensures c.next_number-w.ensures c.if-not-w.false c.next_number-h.ensures c.if-not-h.false in
-    omega (arith, height-small _ _ _ _ b)
+    let small = number-within 4294967295 c.in_ok-height.height _ (sym c.read_number-2.ensures ∙ c.in_ok-height.was) in
+    record { fits = omega arith }
 
-pub returns : goal.returns
-returns c =
-    let r = c.read_stamp-s in
-    let v = c.read_values in
-    let b = both _ _ _ _ c.field_end-e.ensures c.next_number-w.ensures c.if-not-w.false c.next_number-h.ensures c.if-not-h.false in
-    let s =
-    says-sides c.args.line.now _ _ _ b _ r.result.stamp v.result c.if-line-gt-MOST_BYTES.false (stamped _ r.result r.ensures c.if-not-s.false)
-    (stamp-is _ r.result r.ensures (not-false _ c.if-not-s.false)) c.if-n.false v.ensures.value v.ensures.luma_after c.if-not-read_values.false
-    in
-    record { value = s.0; luma_after = s.1 }
+pub returns-clause-value : goal.returns-clause-value
+returns-clause-value c =
+    let I = c.loop-value.invariant in
+    let size = length-take-le (c.in_ok-width.width * c.in_ok-height.height) c.args.luma.now (omega (arith, c.if-n.false, c.told-luma)) in
+    let none = none_left _ c.loop-value.fields c.next-4.new.self c.next-4.result c.next-4.ensures.steps (sym c.is_some.ensures ∙ c.if-is_some.false) in
+    says-frame _ _ _ _ _ I.head c.if-line-gt-MOST_BYTES.false c.if-n.false (taken-all _ _ _ _ I.taken none _ (omega (arith, size, c.loop-value-test.false)))
+
+pub returns-clause-luma_after : goal.returns-clause-luma_after
+returns-clause-luma_after c =
+    let I = c.loop-value.invariant in
+    let size = length-take-le (c.in_ok-width.width * c.in_ok-height.height) c.args.luma.now (omega (arith, c.if-n.false, c.told-luma)) in
+    let none = none_left _ c.loop-value.fields c.next-4.new.self c.next-4.result c.next-4.ensures.steps (sym c.is_some.ensures ∙ c.if-is_some.false) in
+    says-luma _ _ _ _ _ I.head _ (taken-luma _ _ _ _ I.taken none _ _ (omega (arith, size, c.loop-value-test.false)) (omega (arith, c.loop-value.auto)))

@@ -1,30 +1,19 @@
-use mathlib.Core.Path.{◌≡◌, refl, sym, ap, ◌∙◌}
-use Prim.Native.Nat.{ℕ, ◌+◌}
-use native.Mathlib.Omega.{arith}
-use lib.ListN.{length}
+use Rattle.std.proofs.Common.{refl, ap, sym, ◌∙◌, ◌≡◌, ◌+◌, arith}
 use Rattle.laws.proofs.Tab.{filled_none, filled_more, filled-all}
 use Rattle.replay.specs.Generator.{next_of, after, shades}
 use Rattle.replay.proofs.Steps.{after_more}
 use Rattle.replay.proofs.fill.Goals as goal
 
-pub loop-i-init : goal.loop-i-init
+pub loop-place-init : goal.loop-place-init
 unfolding after
-loop-i-init c = (omega arith, (refl, filled_none _ _ _ _ refl))
+loop-place-init c = (refl, filled_none _ _ _ _ refl)
 
-pub loop-i-preserved : goal.loop-i-preserved
-loop-i-preserved c =
-    let t = c in
-    let x = t.args.x in
-    let now : c.next-now.result ≡ after (t.loop-i.i + 1) x = c.next-now.ensures ∙ ap next_of t.loop-i.invariant.1.0 ∙ sym (after_more t.loop-i.i x) in
-    (omega arith, (now, filled_more _ t.loop-i.invariant.1.1 (omega arith) (cc)))
+pub loop-place-preserved : goal.loop-place-preserved
+loop-place-preserved c =
+    let x = c.args.x in
+    let now : c.next-now.result ≡ after (c.loop-place.place-index + 1) x = c.next-now.ensures ∙ ap next_of c.loop-place.invariant.0 ∙ sym (after_more c.loop-place.place-index x) in
+    (now, filled_more _ c.loop-place.invariant.1 (omega arith) cc)
 
-pub returns : goal.returns
+pub returns-clause-dst_after : goal.returns-clause-dst_after
 unfolding shades
-returns c =
-    let t = c in
-    let n = t.args.dst.now in
-    let e : t.loop-i.i ≡ length n = omega arith in
-    record {
-      value = t.loop-i.invariant.1.0 ∙ ap (λ (k : ℕ). after k t.args.x) e;
-      dst_after = filled-all t.loop-i.invariant.1.1 (omega arith);
-    }
+returns-clause-dst_after c = filled-all c.loop-place.invariant.1 (omega arith)

@@ -1,19 +1,7 @@
-use Prim.Native.Nat.{ℕ, ◌+◌, ◌*◌, ◌/◌, ◌%◌}
-use native.Mathlib.Omega.{arith}
-use mathlib.Core.Path.{◌≡◌, refl, ◌∙◌}
-use native.Mathlib.Numerals.{add-one}
-use Rattle.replay_edges.specs.declared.Run.{Run}
-use Rattle.replay_edges.specs.Edges.{edged, side_of, batch_of}
+use Rattle.std.proofs.Common.{add-one}
+use Rattle.replay_edges.specs.Edges.{batch_of}
 use Rattle.replay_edges.proofs.batch.Goals as goal
 
--- one case more
-more : {run : Run} (w n k : ℕ) → run ≡ batch_of w n → k ≡ side_of (n % 4) → edged run (w * (n / 24)) w (n / 24) k (n / 4 % 6) ≡ batch_of w (n + 1)
-unfolding batch_of
-more w n k e f = rw (e, f, add-one n) refl
-
-pub loop-c-init : goal.loop-c-init
-unfolding batch_of
-loop-c-init c = (omega arith, cc)
-
 pub loop-c-preserved : goal.loop-c-preserved
-loop-c-preserved c = (omega arith, c.one-run.ensures ∙ more _ _ _ c.loop-c.invariant.1 c.side.ensures)
+unfolding batch_of
+loop-c-preserved c = rw (add-one c.loop-c.c, ← c.loop-c.invariant, ← c.side.ensures) c.one-run.ensures

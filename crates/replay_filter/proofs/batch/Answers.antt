@@ -1,19 +1,7 @@
-use Rattle.std.proofs.Common.{◌≡◌, refl, ap, ◌∙◌, ℕ, ◌+◌, ◌*◌, add-one, arith}
-use Rattle.replay.specs.declared.Digest.{Digest}
-use Rattle.replay_filter.specs.Lists.{list_of, batch_of}
+use Rattle.std.proofs.Common.{add-one}
+use Rattle.replay_filter.specs.Lists.{batch_of}
 use Rattle.replay_filter.proofs.batch.Goals as goal
 
--- one list more
-more : (d e : Digest) (b n : ℕ) → d ≡ batch_of b n → e ≡ list_of d (b * 256 + n) → e ≡ batch_of b (n + 1)
-unfolding batch_of
-more d e b n f g = rw (g, f, add-one n) refl
-
-pub loop-c-init : goal.loop-c-init
-unfolding batch_of
-loop-c-init c = (omega arith, c.empty-d.ensures)
-
 pub loop-c-preserved : goal.loop-c-preserved
-loop-c-preserved c = (omega arith, more _ _ _ _ c.loop-c.invariant.1 c.list-d.ensures)
-
-pub returns : goal.returns
-returns c = let e : c.loop-c.c ≡ 256 = omega arith in c.loop-c.invariant.1 ∙ ap (batch_of _) e
+unfolding batch_of
+loop-c-preserved c = rw (add-one c.loop-c.c, ← c.loop-c.invariant) c.list-d.ensures

@@ -1,4 +1,4 @@
-use Rattle.std.proofs.Common.{◌≡◌, refl, Bool, List, ℕ, ◌+◌, add-one, arith, rules}
+use Rattle.std.proofs.Common.{◌≡◌, refl, Bool, List, ℕ, ◌+◌, add-one, arith}
 use Rattle.replay_filter.specs.declared.Run.{Run}
 use Rattle.replay_filter.specs.Lists.{outcome_of, run_after, calls_of, list_of}
 use Rattle.replay_filter.proofs.list.Goals as goal
@@ -14,18 +14,18 @@ store-more : (wide : Bool) (first run : Run) (store next : List ℕ) (n : ℕ) �
 unfolding calls_of
 store-more wide first run store next n e f g = rw (g, e, f, add-one n) refl
 
-pub loop-c-init : goal.loop-c-init
+pub loop-init : goal.loop-init
 unfolding calls_of
-loop-c-init c = (omega arith, (c.opened-run.ensures.place_bound, (search rules, (search rules, (search rules, (refl, refl))))))
+loop-init c = (c.opened-run.ensures.place_bound, (refl, c.new-memory.ensures))
 
-pub loop-c-preserved : goal.loop-c-preserved
-loop-c-preserved c =
+pub loop-preserved : goal.loop-preserved
+loop-preserved c =
     let a = c.call-run in
-    let i = c.loop-c.invariant.1.1.1.1.1 in
-    (omega arith, (a.ensures.place_bound, (omega arith, (omega arith, (omega arith, (run_more _ _ _ _ _ _ i.0 i.1 a.ensures.value, store-more _ _ _ _ _ _ i.0 i.1 a.ensures.store_after))))))
+    let i = c.loop.invariant.1 in
+    (a.ensures.place_bound, (run_more _ _ _ _ _ _ i.0 i.1 a.ensures.value, store-more _ _ _ _ _ _ i.0 i.1 a.ensures.store_after))
 
 pub returns : goal.returns
 unfolding list_of
 returns c =
-    let e : c.loop-c.c ≡ 24 = omega arith in
-    rw (c.loop-c.invariant.1.1.1.1.1.0, e, c.opened-run.ensures.value) refl
+    let e : c.loop.counter ≡ 24 = omega arith in
+    rw (c.loop.invariant.1.0, e, c.opened-run.ensures.value) refl

@@ -1,20 +1,7 @@
-use Prim.Native.Nat.{ℕ, ◌+◌, ◌/◌, ◌%◌}
-use native.Mathlib.Omega.{arith}
-use mathlib.Core.Path.{◌≡◌, refl, ◌∙◌}
-use native.Mathlib.Numerals.{add-one}
-use Rattle.replay_planes.specs.declared.Run.{Run}
-use Rattle.replay_planes.specs.declared.Stage.{Stage}
-use Rattle.replay_planes.specs.Batches.{one_of, batch_of}
+use Rattle.std.proofs.Common.{add-one}
+use Rattle.replay_planes.specs.Batches.{batch_of}
 use Rattle.replay_planes.proofs.batch.Goals as goal
 
--- one case more
-more : {run : Run} (stage : Stage) (w n : ℕ) → run ≡ batch_of stage w n → one_of stage run w (n / 4) (n % 4) ≡ batch_of stage w (n + 1)
-unfolding batch_of
-more stage w n e = rw (e, add-one n) refl
-
-pub loop-c-init : goal.loop-c-init
-unfolding batch_of
-loop-c-init c = (omega arith, cc)
-
 pub loop-c-preserved : goal.loop-c-preserved
-loop-c-preserved c = (omega arith, c.one-run.ensures ∙ more _ _ _ c.loop-c.invariant.1)
+unfolding batch_of
+loop-c-preserved c = rw (add-one c.loop-c.c, ← c.loop-c.invariant) c.run-run.ensures

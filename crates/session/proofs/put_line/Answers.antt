@@ -1,26 +1,20 @@
 -- `session::put_line` meets its contract: the four texts one after the other. Assumes nothing.
-use Prim.Native.Nat.{◌≤◌}
+use mathlib.Core.Path.{◌≡◌, ap, ◌∙◌}
+use Prim.Native.Nat.{ℕ}
 use native.Mathlib.Omega.{arith}
-use lib.ListN.{length}
-use Rattle.session.proofs.Texts.{wrote_then, field-length, cut-length, line-parts}
+use Rattle.std.proofs.Common.{Option}
+use Rattle.timestamp.specs.declared.Timestamp.{Timestamp}
+use Rattle.decimal.proofs.Writes.{wrote_next}
+use Rattle.detector.specs.Answers.{answer_in}
+use Rattle.session.proofs.Texts.{line-parts}
 use Rattle.session.proofs.put_line.Goals as goal
-
-pub put_field-q-requires : goal.put_field-q-requires
-put_field-q-requires c =
-    omega (arith, c.requires, c.put_field-p.ensures.1, c.put_field-p.auto, field-length c.args.number)
-
-pub put_cut-e-requires : goal.put_cut-e-requires
-put_cut-e-requires c =
-    omega (arith, c.requires, c.put_field-p.ensures.1, c.put_field-p.auto, c.put_field-q.ensures.1, c.put_field-q.auto, field-length c.args.number, field-length c.args.a.number)
-
-pub put_byte-requires : goal.put_byte-requires
-put_byte-requires c =
-    omega (arith, c.requires, c.put_field-p.ensures.1, c.put_field-p.auto, c.put_field-q.ensures.1, c.put_field-q.auto, c.put_cut-e.ensures.1, c.put_cut-e.auto, field-length c.args.number, field-length c.args.a.number, cut-length c.args.a.cut)
+use Rattle.session.proofs.put_line.Goals.{in-Ok, in-Err}
 
 pub returns : goal.returns
 returns c =
-    let room : c.args.at ≤ length c.args.out.now = omega (arith, c.requires) in
-    rw (← line-parts c.args.number c.args.a)
-    (wrote_then _ _ _ _ _ _ _ _ room
-    (wrote_then _ _ _ _ _ _ _ _ room (wrote_then _ _ _ _ _ _ _ _ room c.put_field-p.ensures c.put_field-q.ensures) c.put_cut-e.ensures)
-    c.put_byte.ensures)
+    let shown : c.match-answer.code ≡ ((answer_in c.args.answer).number, (answer_in c.args.answer).cut) =
+    elim c.match-answer.branch [ in-Ok w ↦ rw w.in-Ok.is w.code-is | in-Err w ↦ rw (w.in-Err.is, ← w.number.ensures) w.code-is ] in
+    let number : c.from.result ≡ (answer_in c.args.answer).number = c.from.ensures ∙ ap (λ (p : ℕ × Option Timestamp). p.0) shown in
+    let cut : c.match-answer.code.1 ≡ (answer_in c.args.answer).cut = ap (λ (p : ℕ × Option Timestamp). p.1) shown in
+    rw (← line-parts c.args.number (answer_in c.args.answer), ← number, ← cut)
+    (wrote_next (omega arith) (wrote_next (omega arith) (wrote_next (omega arith) c.put_field.ensures c.put_field-2.ensures) c.put_cut.ensures) c.put_byte.ensures)

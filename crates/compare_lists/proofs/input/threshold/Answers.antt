@@ -1,29 +1,23 @@
--- `input::threshold` meets its contract: each return is a case of the definition's tests, and the odd ones are computed.
-use borrow.Author.Tests.{eq-eqb, ne_eqb}
-use lib.Ieee.{neg, div, of_int, of_bits}
+use lib.Ieee.{neg, of_int, of_bits}
 use Rattle.compare_lists.specs.Records.{threshold_of}
 use Rattle.compare_lists.proofs.input.threshold.Goals as goal
 
-pub returns-then-kind-eq0 : goal.returns-then-kind-eq0
-unfolding threshold_of neg div of_int of_bits
-returns-then-kind-eq0 c = simp (eq-eqb _ _ c.if-kind-eq0.true)
+pub returns-in-0 : goal.returns-in-0
+unfolding threshold_of neg of_int of_bits
+returns-in-0 c = rw c.in-0.is
 
-pub returns-then-kind-eq1 : goal.returns-then-kind-eq1
-unfolding threshold_of neg div of_int of_bits
-returns-then-kind-eq1 c = simp (ne_eqb _ _ c.if-kind-eq0.false, eq-eqb _ _ c.if-kind-eq1.true)
+pub returns-in-1 : goal.returns-in-1
+unfolding threshold_of neg of_int of_bits
+returns-in-1 c = rw c.in-1.is
 
-pub returns-then-kind-eq2 : goal.returns-then-kind-eq2
-unfolding threshold_of neg div of_int of_bits
-returns-then-kind-eq2 c = simp (ne_eqb _ _ c.if-kind-eq0.false, ne_eqb _ _ c.if-kind-eq1.false, eq-eqb _ _ c.if-kind-eq2.true)
+pub returns-in-2 : goal.returns-in-2
+unfolding threshold_of neg of_int of_bits
+returns-in-2 c = rw c.in-2.is
 
-pub returns-then-kind-eq3 : goal.returns-then-kind-eq3
-unfolding threshold_of neg div of_int of_bits
-returns-then-kind-eq3 c = simp (ne_eqb _ _ c.if-kind-eq0.false, ne_eqb _ _ c.if-kind-eq1.false, ne_eqb _ _ c.if-kind-eq2.false, eq-eqb _ _ c.if-kind-eq3.true)
+pub returns-in-3 : goal.returns-in-3
+unfolding threshold_of neg of_int of_bits
+returns-in-3 c = rw c.in-3.is
 
-pub returns-then-kind-eq4 : goal.returns-then-kind-eq4
-unfolding threshold_of neg div of_int of_bits
-returns-then-kind-eq4 c = simp (ne_eqb _ _ c.if-kind-eq0.false, ne_eqb _ _ c.if-kind-eq1.false, ne_eqb _ _ c.if-kind-eq2.false, ne_eqb _ _ c.if-kind-eq3.false, eq-eqb _ _ c.if-kind-eq4.true)
-
-pub returns : goal.returns
-unfolding threshold_of neg div of_int of_bits
-returns c = simp (ne_eqb _ _ c.if-kind-eq0.false, ne_eqb _ _ c.if-kind-eq1.false, ne_eqb _ _ c.if-kind-eq2.false, ne_eqb _ _ c.if-kind-eq3.false, ne_eqb _ _ c.if-kind-eq4.false)
+pub returns-in-4 : goal.returns-in-4
+unfolding threshold_of neg of_int of_bits
+returns-in-4 c = rw c.in-4.is

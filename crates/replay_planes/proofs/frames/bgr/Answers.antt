@@ -1,18 +1,11 @@
--- `frames::bgr` meets its contract: the lengths lent are those of the definition.
-use native.Mathlib.Omega.{arith}
-use lib.ListN.{length-take, length, take}
-use Rattle.replay_planes.specs.Stages.{bgr_around, answered}
-use mathlib.Core.Path.{◌≡◌}
-use Prim.Native.Nat.{◌+◌, ◌-◌, ◌*◌}
+use Rattle.std.proofs.Common.{ℕ, rules}
+use Rattle.frame.specs.Checks.{bgr_refusal}
+use Rattle.replay_planes.specs.Stages.{bgr_around}
 use Rattle.replay_planes.proofs.frames.bgr.Goals as goal
 
 pub returns : goal.returns
-unfolding bgr_around answered
+unfolding bgr_around
 returns c =
-    let n = c.area-need.result in
-    let m = c.bytes-data.result in
-    let s = c.args in
-    let less : length (take c.below-less.result m) ≡ s.stride * s.h - 1 = simp length-take (omega arith) in
-    let full : length (take n m) ≡ s.stride * s.h = simp length-take (omega arith) in
-    let more : length (take (n + 1) m) ≡ s.stride * s.h + 1 = simp length-take (omega arith) in
-    cc
+    let a = c.args in
+    let h : ℕ → ℕ = λ n. bgr_refusal n a.rows.case.w a.rows.case.h a.rows.stride in
+    rw (← c.bytes.ensures.value) (c.around.ensures h (λ n r b called. search (rules, called)))

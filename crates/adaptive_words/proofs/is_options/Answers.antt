@@ -1,8 +1,0 @@
--- `adaptive_words::is_options` meets its contract.
-use Rattle.adaptive_words.specs.Options.{is_options}
-use mathlib.Core.Path.{refl}
-use Rattle.adaptive_words.proofs.is_options.Goals as goal
-
-pub returns : goal.returns
-unfolding is_options
-returns c = refl

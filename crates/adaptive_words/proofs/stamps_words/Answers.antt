@@ -1,0 +1,16 @@
+-- `adaptive_words::stamps_words` meets its contract: each place is written by itself, and reads back.
+use mathlib.Core.Path.{sym}
+use lib.IntN.{pos}
+use Rattle.std.proofs.Common.{rules, arith}
+use Rattle.laws.proofs.Tab.{is-tabulate}
+use Rattle.adaptive_words.specs.Window.{stamps_words, stamps_of}
+use Rattle.adaptive_words.proofs.stamps_words.Goals as goal
+
+pub returns-clause-value : goal.returns-clause-value
+unfolding stamps_words
+returns-clause-value c = is-tabulate 0 c.map.result 129 _ c.map.ensures.items.long (λ i h. let k = c.map.ensures.items.at i (pos 0) 0 h in search rules)
+
+pub returns-clause-result_value : goal.returns-clause-result_value
+unfolding stamps_of
+returns-clause-result_value c =
+    sym (is-tabulate (pos 0) c.args.stamps 129 _ (omega arith) (λ i h. let k = c.map.ensures.items.at i (pos 0) 0 h in search rules))

@@ -1,7 +1,0 @@
--- `adaptive_words::window_of` meets its contract.
-use Rattle.adaptive_words.specs.Window.{window_of}
-use Rattle.adaptive_words.proofs.window_of.Goals as goal
-
-pub returns : goal.returns
-unfolding window_of
-returns c = rw (c.stamp_of-cut.ensures, c.score_of-ratio.ensures, c.score_of-target.ensures, c.float_of.ensures)

@@ -1,7 +1,0 @@
--- `replay::word` meets its contract: its bytes, one step each.
-use Rattle.replay.specs.Digest.{fed, least_first}
-use Rattle.replay.proofs.word.Goals as goal
-
-pub returns : goal.returns
-unfolding fed least_first
-returns c = cc

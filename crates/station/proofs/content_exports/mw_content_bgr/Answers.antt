@@ -1,8 +1,0 @@
--- `station::mw_content_bgr` meets its contract, which is that of `content_station::process_bgr`.
-use mir.ValLaws.{to_z-of_z}
-use mir.Syntax.{w64}
-use Rattle.station.proofs.content_exports.mw_content_bgr.Goals as goal
-
-pub returns : goal.returns
-returns c =
-    rw (to_z-of_z w64 c.args.ts c.ranges.ts) at c.process_bgr.ensures

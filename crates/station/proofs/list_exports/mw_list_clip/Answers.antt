@@ -1,8 +1,0 @@
--- `station::mw_list_clip` meets its contract, which is that of `cut_list_station::clip`.
-use mir.ValLaws.{to_z-of_z}
-use mir.Syntax.{w64}
-use Rattle.station.proofs.list_exports.mw_list_clip.Goals as goal
-
-pub returns : goal.returns
-returns c =
-    rw (to_z-of_z w64 c.args.ts c.ranges.ts) at c.clip.ensures
