@@ -209,7 +209,7 @@ static inline const char *mw_text(uint32_t number)
  *     neither flushed to zero (FTZ) nor read as zero (DAZ). A C program starts so, unless gcc or clang link it with
  *     -ffast-math. With FTZ or DAZ results may differ: a weight of 5e-324 beside three of 0 is then refused by 7, and
  *     should be accepted. An exception that is not masked ends a program that has no handler for it.
- *   - Stack: a frame call takes up to 140 KB (content) or 146 KB (adaptive) if edges are on, else 9 or 17 KB; a list
+ *   - Stack: a frame call takes up to 140 KB (content) or 146 KB (adaptive) if edges are on, else 9 or 22 KB; a list
  *     call takes under 4 KB. This is measured (of a list call with an older compiler), and not proved.
  *
  * Threads: there is no global data, so calls on different states may run at the same time, each with an answer, a

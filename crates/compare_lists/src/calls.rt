@@ -147,7 +147,13 @@ impl<L: Lists<D>, D: Detect> List<L, D> {
             clear(d)
         } else {
             let f = memory::frame(self.size, r);
-            memory.planes.refill(r, f.need);
+            memory::refill(
+                r,
+                f.need,
+                &mut memory.planes.hue,
+                &mut memory.planes.saturation,
+                &mut memory.planes.value,
+            );
             frame_call(d, kind, f, input::stamp(self.clock), memory)
         }
     }
@@ -156,10 +162,22 @@ impl<L: Lists<D>, D: Detect> List<L, D> {
     fn report(self, answer: Result<Step<D>, Refused<D>>, store: &[u8], out: &mut Output<'_>)
         ensures { Written out.old out.new }
     {
-        output::put_answer(out, answer);
-        output::put_last(out, self.state);
+        let (number, step) = match answer {
+            Ok(step) => (0, step),
+            Err(refused) => (refused.refusal.number(), quiet(refused.state)),
+        };
+        output::put_answer(
+            out,
+            number,
+            step.cut,
+            step.score,
+            step.components,
+            step.sums,
+        );
+        let stream = self.state.stream();
+        output::put_last(out, stream.last_score, stream.last_components);
         self.lists.put_state(out, self.state);
-        output::put_store(out, self.state.stream(), store);
+        output::put_store(out, stream.width, stream.height, store);
     }
 
     // A call, written down.

@@ -179,18 +179,16 @@ fn renew(plane: &mut [u8], n: usize, x: u32, kind: u32) -> u32
     }
 }
 
-impl Planes {
-    // Renews the first bytes; the others are as the last frame had them.
-    pub fn refill(&mut self, r: Record<'_>, need: usize)
-        ensures hue_after { self.new.hue ≡ renewed_plane self.old.hue (count_of need r.entry.script.now r.entry.i) (start_of r.entry.script.now r.entry.i) (kind_of r.entry.script.now r.entry.i) }
-        ensures saturation_after { self.new.saturation ≡ renewed_plane self.old.saturation (count_of need r.entry.script.now r.entry.i) (number_after self.old.hue (count_of need r.entry.script.now r.entry.i) (start_of r.entry.script.now r.entry.i) (kind_of r.entry.script.now r.entry.i)) (kind_of r.entry.script.now r.entry.i) }
-        ensures value_after { self.new.value ≡ renewed_plane self.old.value (count_of need r.entry.script.now r.entry.i) (number_after self.old.saturation (count_of need r.entry.script.now r.entry.i) (number_after self.old.hue (count_of need r.entry.script.now r.entry.i) (start_of r.entry.script.now r.entry.i) (kind_of r.entry.script.now r.entry.i)) (kind_of r.entry.script.now r.entry.i)) (kind_of r.entry.script.now r.entry.i) }
-    {
-        let kind = r.byte(8) % 8;
-        let n = renewed(need, r.byte(9) % 4, r.byte(10));
-        let x = r.byte(11) * 256 + r.byte(12);
-        let y = renew(&mut self.hue, n, x, kind);
-        let z = renew(&mut self.saturation, n, y, kind);
-        renew(&mut self.value, n, z, kind);
-    }
+// Renews the first bytes of the planes; the others are as the last frame had them.
+pub fn refill(r: Record<'_>, need: usize, hue: &mut [u8], saturation: &mut [u8], value: &mut [u8])
+    ensures hue_after { hue.new ≡ renewed_plane hue.old (count_of need r.entry.script.now r.entry.i) (start_of r.entry.script.now r.entry.i) (kind_of r.entry.script.now r.entry.i) }
+    ensures saturation_after { saturation.new ≡ renewed_plane saturation.old (count_of need r.entry.script.now r.entry.i) (number_after hue.old (count_of need r.entry.script.now r.entry.i) (start_of r.entry.script.now r.entry.i) (kind_of r.entry.script.now r.entry.i)) (kind_of r.entry.script.now r.entry.i) }
+    ensures value_after { value.new ≡ renewed_plane value.old (count_of need r.entry.script.now r.entry.i) (number_after saturation.old (count_of need r.entry.script.now r.entry.i) (number_after hue.old (count_of need r.entry.script.now r.entry.i) (start_of r.entry.script.now r.entry.i) (kind_of r.entry.script.now r.entry.i)) (kind_of r.entry.script.now r.entry.i)) (kind_of r.entry.script.now r.entry.i) }
+{
+    let kind = r.byte(8) % 8;
+    let n = renewed(need, r.byte(9) % 4, r.byte(10));
+    let x = r.byte(11) * 256 + r.byte(12);
+    let y = renew(hue, n, x, kind);
+    let z = renew(saturation, n, y, kind);
+    renew(value, n, z, kind);
 }

@@ -3,12 +3,10 @@ ghost use Rattle.std.specs.Prelude.{◌≡◌};
 ghost use Rattle.compare_lists.specs.Records.{raised_of};
 ghost use Rattle.compare_lists.specs.Wrote.{Written};
 
-use crate::{calls, memory};
-use detector::{Detect, Step};
-use refusal::Refused;
+use crate::memory;
 use score::Components;
 use std::num::f64_to_bits_with_nan;
-use stream::{Stream, Sums};
+use stream::Sums;
 use timestamp::Timestamp;
 
 // The memory that is written to, and the place of the next byte.
@@ -120,34 +118,36 @@ impl<T: Put> Put for Option<T> {
     }
 }
 
-// The four planes of a frame of this stream's size, and 16 bytes behind them.
-pub fn put_store(out: &mut Output<'_>, stream: Stream, store: &[u8])
+// The four planes of a frame of this size, and 16 bytes behind them.
+pub fn put_store(out: &mut Output<'_>, width: u32, height: u32, store: &[u8])
     ensures { Written out.old out.new }
 {
-    let n = 4 * memory::area(stream.width, stream.height) + 16;
+    let n = 4 * memory::area(width, height) + 16;
     out.extend(&store[..n.min(store.len())]);
 }
 
-// What a call answers besides the state: a refused one brings its number alone.
-// Kept: the number in front of what a step shows, as compare/README.md lays it out.
-pub fn put_answer<D: Detect>(out: &mut Output<'_>, answer: Result<Step<D>, Refused<D>>)
+// What a call answers besides the state, its number in front.
+pub fn put_answer(
+    out: &mut Output<'_>,
+    number: u32,
+    cut: Option<Timestamp>,
+    score: Option<f64>,
+    components: Components,
+    sums: Sums,
+)
     ensures { Written out.old out.new }
 {
-    let (number, step) = match answer {
-        Ok(step) => (0u32, step),
-        Err(refused) => (refused.refusal.number(), calls::quiet(refused.state)),
-    };
     number.put(out);
-    step.cut.put(out);
-    step.score.put(out);
-    step.components.put(out);
-    step.sums.put(out);
+    cut.put(out);
+    score.put(out);
+    components.put(out);
+    sums.put(out);
 }
 
 // What the readers of both detectors show.
-pub fn put_last<D: Detect>(out: &mut Output<'_>, d: D)
+pub fn put_last(out: &mut Output<'_>, score: Option<f64>, components: Option<Components>)
     ensures { Written out.old out.new }
 {
-    detector::last_score(d).put(out);
-    detector::last_components(d).put(out);
+    score.put(out);
+    components.put(out);
 }

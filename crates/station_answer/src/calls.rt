@@ -32,7 +32,7 @@ fn finish<R: Recorded<N>, const N: usize>(
     match r {
         Ok(step) => {
             R::write(step.detector, state);
-            *answer = crate::answer_words(step);
+            *answer = crate::answer_words(step.cut, step.score, step.components, step.sums);
             0
         }
         Err(refused) => refused.refusal.number(),

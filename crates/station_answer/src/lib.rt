@@ -11,8 +11,9 @@ ghost use Rattle.station_answer.specs.Settings.{flag_set, kernel_set};
 
 pub mod calls;
 
-use detector::Step;
 use score::Components;
+use stream::Sums;
+use timestamp::Timestamp;
 
 // How many bytes the store of a frame of this size has; 0 for a size that every call refuses by 1.
 // Kept: these three in 64 bits for C, and those of `stream` in places.
@@ -57,23 +58,28 @@ pub fn magnitudes_count(width: u32, height: u32) -> u64
 
 // The thirteen words of the answer to an accepted frame, which read back.
 #[tactic(auto, using(words::proofs::Made::reads), unfolding(crate::specs::Answer::answer_words))]
-pub fn answer_words<D: Copy>(s: Step<D>) -> [u64; 13]
-    ensures { (result ≡ answer_words s.cut s.score s.components s.sums) × ReadAs s.cut s.score s.components s.sums result }
+pub fn answer_words(
+    cut: Option<Timestamp>,
+    score: Option<f64>,
+    deltas: Components,
+    sums: Sums,
+) -> [u64; 13]
+    ensures { (result ≡ answer_words cut score deltas sums) × ReadAs cut score deltas sums result }
 {
     [
-        words::tag(s.cut),
-        words::stamp_word(s.cut),
-        words::tag(s.score),
-        words::score_word(s.score),
-        words::float_word(s.components.delta_hue),
-        words::float_word(s.components.delta_sat),
-        words::float_word(s.components.delta_lum),
-        words::float_word(s.components.delta_edges),
-        s.sums.hue as u64,
-        s.sums.saturation as u64,
-        s.sums.luma as u64,
-        s.sums.edges as u64,
-        s.sums.count as u64,
+        words::tag(cut),
+        words::stamp_word(cut),
+        words::tag(score),
+        words::score_word(score),
+        words::float_word(deltas.delta_hue),
+        words::float_word(deltas.delta_sat),
+        words::float_word(deltas.delta_lum),
+        words::float_word(deltas.delta_edges),
+        sums.hue as u64,
+        sums.saturation as u64,
+        sums.luma as u64,
+        sums.edges as u64,
+        sums.count as u64,
     ]
 }
 
