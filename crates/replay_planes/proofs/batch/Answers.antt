@@ -1,7 +1,0 @@
-use Rattle.std.proofs.Common.{add-one}
-use Rattle.replay_planes.specs.Batches.{batch_of}
-use Rattle.replay_planes.proofs.batch.Goals as goal
-
-pub loop-c-preserved : goal.loop-c-preserved
-unfolding batch_of
-loop-c-preserved c = rw (add-one c.loop-c.c, ← c.loop-c.invariant) c.run-run.ensures
