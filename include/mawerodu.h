@@ -9,7 +9,7 @@
  * caller", a call ends, does nothing undefined and touches no memory but its stack and what it is lent, whatever the
  * values of its arguments are. Either it does exactly what the rules say (docs/RULES.md of the source tree), or it
  * returns the number of the first refusal that applies and changes nothing; a refused settings call sets the defaults.
- * The library allocates nothing, keeps no pointer and has no global data.
+ * The library allocates nothing, keeps no pointer and has no global data that changes.
  *
  * The inline functions of this header are plain C, and no proof speaks of them: mw_text, mw_cut, mw_score, mw_delta,
  * mw_sum, mw_count and those of struct mw_memory.
@@ -209,12 +209,13 @@ static inline const char *mw_text(uint32_t number)
  *     neither flushed to zero (FTZ) nor read as zero (DAZ). A C program starts so, unless gcc or clang link it with
  *     -ffast-math. With FTZ or DAZ results may differ: a weight of 5e-324 beside three of 0 is then refused by 7, and
  *     should be accepted. An exception that is not masked ends a program that has no handler for it.
- *   - Stack: a frame call takes up to 140 KB (content) or 146 KB (adaptive) if edges are on, else 9 or 22 KB; a list
- *     call takes under 4 KB. This is measured (of a list call with an older compiler), and not proved.
+ *   - Stack: a frame call takes up to 17 KB (content) or 24 KB (adaptive), with edges on or off; a list call takes
+ *     under 4 KB. This is measured (of a list call with an older compiler), and not proved.
  *
- * Threads: there is no global data, so calls on different states may run at the same time, each with an answer, a
- * store, a scratch and magnitudes of its own. They may read the same planes. Calls on different lists may run at the
- * same time too, each with stamps and a result of its own; calls that only read a list may share it and its stamps. */
+ * Threads: there is no global data that changes, so calls on different states may run at the same time, each with an
+ * answer, a store, a scratch and magnitudes of its own. They may read the same planes. Calls on different lists may run
+ * at the same time too, each with stamps and a result of its own; calls that only read a list may share it and its
+ * stamps. */
 
 /* ---- Settings ----
  *

@@ -19,7 +19,8 @@
 //!
 //! A detector and a list own their state and the memory that the library works on, so no call is refused for short
 //! memory. A call that is refused returns a [`Refusal`] and changes nothing: the stream goes on as if the call had not
-//! been made. Different threads may use different detectors and lists at the same time.
+//! been made. Different threads may use different detectors and lists at the same time. A call takes up to 24 KB of
+//! stack (measured, and not proved).
 //!
 //! No other crate is needed, only the archive `libstation.a`, of the same version up to the patch number (see
 //! [`VERSION`]). With cargo, `build.rs` finds it and has it linked; it says where it looks. With `rustc` alone, hand it

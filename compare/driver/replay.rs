@@ -178,7 +178,10 @@ const CAPPED: [u8; 12] = [150, 171, 187, 167, 194, 166, 158, 56, 180, 158, 56, 5
 fn edges() -> String {
     let mut out = String::new();
     for width in 0..=24 {
-        writeln!(out, "edges {width} {}", edge_planes(width)).unwrap();
+        writeln!(out, "edges {width} {}", edge_planes(width, 25)).unwrap();
+    }
+    for width in 25..=100 {
+        writeln!(out, "wide {width} {}", edge_planes(width, 6)).unwrap();
     }
     for (name, luma, width, height) in [("still", &STILL[..], 7, 4), ("capped", &CAPPED, 3, 4)] {
         let mut digest = Digest::new();
@@ -190,9 +193,9 @@ fn edges() -> String {
     out
 }
 
-fn edge_planes(width: u32) -> u32 {
+fn edge_planes(width: u32, heights: u32) -> u32 {
     let (mut generator, mut digest) = (Generator(width), Digest::new());
-    for c in 0..600 {
+    for c in 0..heights * 24 {
         let (height, kind, k) = (c / 24, c / 4 % 6, [3, 5, 13, 101][c as usize % 4]);
         let luma = generator.shades((width * height) as usize, kind);
         digest.bytes(&rust::edge_plane(&luma, width, height, k));

@@ -44,7 +44,9 @@ pub struct Divider {
 }
 
 impl Divider {
-    pub fn new() -> Divider {
+    pub fn new() -> Divider
+        ensures { Reciprocals result.reciprocals }
+    {
         Divider {
             reciprocals: RECIPROCALS,
         }

@@ -1,10 +1,17 @@
--- What the private functions of the operator ask of a place, and what they work out there.
+-- Inner places and parts of a row of them, as the operator's functions and thinning ask for them, and what is worked out at a place.
 use Rattle.std.specs.Prelude.{List, ℕ, ◌+◌, ◌-◌, ◌*◌, ◌<◌, get_or, ℤ, pos, ◌-ℤ◌}
 
 -- column x of row y has a neighbour on every side
 pub record Inner (w h x y : ℕ) : Type 0 where
   pub left : 0 < x
   pub right : x + 1 < w
+  pub top : 0 < y
+  pub bottom : y + 1 < h
+
+-- so has each of the n places of row y from column x on
+pub record InnerPart (w h n x y : ℕ) : Type 0 where
+  pub left : 0 < x
+  pub right : x + n < w
   pub top : 0 < y
   pub bottom : y + 1 < h
 

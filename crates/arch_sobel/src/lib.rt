@@ -2,10 +2,10 @@
 // Kept, point 5: plain parameters, as the functions under the frame records have (RULES 16.1).
 #![tactic(auto)]
 
-ghost use Rattle.std.specs.Prelude.{◌≡◌, ◌+◌, ◌*◌, ◌<◌, ◌≤◌, nat_abs, length};
+ghost use Rattle.std.specs.Prelude.{◌≡◌, pos, ◌+◌, ◌*◌, ◌<◌, ◌≤◌, nat_abs, length};
 ghost use Rattle.laws.specs.Lists.{tabulate};
-ghost use Rattle.arch_sobel.specs.Sobel.{dir_of, mag_at, dir_at, sobel_mag, sobel_dir};
-ghost use Rattle.arch_sobel.specs.Inner.{smooth, grad, Inner};
+ghost use Rattle.arch_sobel.specs.Sobel.{grad_x, grad_y, dir_of, mag_at, dir_at, sobel_mag, sobel_dir};
+ghost use Rattle.arch_sobel.specs.Inner.{smooth, grad, Inner, InnerPart};
 
 // Three bytes with Sobel's weights 1, 2, 1: that at place i, and those a step before and a step after it.
 fn smooth(s: &[u8], i: usize, step: usize) -> u32
@@ -50,79 +50,92 @@ fn direction(gx: i32, gy: i32) -> u8
     choose::pick(1000 * ay < 414 * ax, 0, steep)
 }
 
-// What the planes of magnitudes and directions have at one place.
+// The gradient at an inner place: gx across, gy down.
 #[derive(Clone, Copy)]
-struct Edge {
-    mag: i32,
-    dir: u8,
+struct Gradient {
+    gx: i32,
+    gy: i32,
+    ghost gx_bound: { nat_abs gx ≤ 1020 },
+    ghost gy_bound: { nat_abs gy ≤ 1020 },
+}
+
+impl Gradient {
+    // |gx| + |gy|
+    fn magnitude(self) -> i32
+        ensures { result ≡ pos (nat_abs self.gx + nat_abs self.gy) }
+    {
+        let sum = size(self.gx) + size(self.gy);
+        sum as i32
+    }
 }
 
 // A plane of bytes of w columns and h rows, row after row.
-// Kept: beside that of `canny_thin`: one is of bytes, the other of magnitudes with two marks; they share the two sides alone.
-#[derive(Drop)]
-struct Plane<'a> {
-    bytes: &'a [u8],
-    w: usize,
-    h: usize,
+#[derive(Clone, Copy)]
+pub struct Plane<'a> {
+    pub bytes: &'a [u8],
+    pub w: usize,
+    pub h: usize,
     ghost packed: { length bytes.now ≡ w * h },
 }
 
-// Kept, point 2: beside the rows of `canny_thin`: these write two planes, and those one in place.
 impl Plane<'_> {
-    // What the two planes have at an inner place.
-    fn edge_at(&self, x: usize, y: usize) -> Edge
-        requires { Inner self.now.w self.now.h x y }
-        ensures mag { result.mag ≡ mag_at self.now.bytes.now self.now.w self.now.h x y }
-        ensures dir { result.dir ≡ dir_at self.now.bytes.now self.now.w self.now.h x y }
+    // The gradient at an inner place.
+    fn gradient(self, x: usize, y: usize) -> Gradient
+        requires { Inner self.w self.h x y }
+        ensures gx { result.gx ≡ grad_x self.entry.bytes.now self.entry.w x y }
+        ensures gy { result.gy ≡ grad_y self.entry.bytes.now self.entry.w x y }
     {
         let i = y * self.w + x;
         let gx = grad(self.bytes, i, 1, self.w);
         let gy = grad(self.bytes, i, self.w, 1);
-        let sum = size(gx) + size(gy);
-        Edge {
-            mag: sum as i32,
-            dir: direction(gx, gy),
-        }
+        Gradient { gx, gy }
     }
 
-    // Row y of the two planes, where y is not at the border. Its inner places are written by a loop without a test, which the
-    // compiler works several places at a time.
-    fn inner_row(&self, mag: &mut [i32], dir: &mut [u8], y: usize)
-        requires wide { 1 < self.now.w }
-        requires top { 0 < y }
-        requires bottom { y + 1 < self.now.h }
-        requires mag_len { length mag.old ≡ self.now.w }
-        requires dir_len { length dir.old ≡ self.now.w }
-        ensures mag_after { mag.new ≡ tabulate self.now.w (λ x. mag_at self.now.bytes.now self.now.w self.now.h x y) }
-        ensures dir_after { dir.new ≡ tabulate self.now.w (λ x. dir_at self.now.bytes.now self.now.w self.now.h x y) }
-    {
-        let last = self.w - 1;
-        mag[0] = 0;
-        dir[0] = 0;
-        // Kept: two rows are written, and three are read about a place: an index says it plainer than five iterators.
-        for x in 1..last {
-            let e = self.edge_at(x, y);
-            mag[x] = e.mag;
-            dir[x] = e.dir;
-        }
-        mag[last] = 0;
-        dir[last] = 0;
-    }
-
-    // Row y of the two planes.
-    fn row(&self, mag: &mut [i32], dir: &mut [u8], y: usize)
-        requires y_lt_h { y < self.now.h }
-        requires mag_len { length mag.old ≡ self.now.w }
-        requires dir_len { length dir.old ≡ self.now.w }
-        ensures mag_after { mag.new ≡ tabulate self.now.w (λ x. mag_at self.now.bytes.now self.now.w self.now.h x y) }
-        ensures dir_after { dir.new ≡ tabulate self.now.w (λ x. dir_at self.now.bytes.now self.now.w self.now.h x y) }
+    // The magnitudes of row y, 0 at the border. The inner places are written by a loop without a test, which the compiler works several
+    // places at a time.
+    pub fn magnitudes(self, mag: &mut [i32], y: usize)
+        requires y_lt_h { y < self.h }
+        requires mag_len { length mag.old ≡ self.w }
+        ensures { mag.new ≡ tabulate self.entry.w (λ x. mag_at self.entry.bytes.now self.entry.w self.entry.h x y) }
     {
         if y == 0 || self.h <= y + 1 || self.w < 2 {
             mag.fill(0);
-            dir.fill(0);
-        } else {
-            self.inner_row(mag, dir, y);
+            return;
         }
+        let last = self.w - 1;
+        mag[0] = 0;
+        // Kept: three rows are read about a place: an index says it plainer than five iterators.
+        for x in 1..last {
+            mag[x] = self.gradient(x, y).magnitude();
+        }
+        mag[last] = 0;
+    }
+
+    // The directions at inner places of row y from column x on, as many as out has.
+    pub fn directions(self, out: &mut [u8], x: usize, y: usize)
+        requires { InnerPart self.w self.h (length out.old) x y }
+        ensures { out.new ≡ tabulate (length out.old) (λ j. dir_at self.entry.bytes.now self.entry.w self.entry.h (x + j) y) }
+    {
+        for (j, d) in out.iter_mut().enumerate() {
+            let g = self.gradient(x + j, y);
+            *d = direction(g.gx, g.gy);
+        }
+    }
+
+    // The directions of row y, 0 at the border.
+    fn direction_row(self, dir: &mut [u8], y: usize)
+        requires y_lt_h { y < self.h }
+        requires dir_len { length dir.old ≡ self.w }
+        ensures { dir.new ≡ tabulate self.entry.w (λ x. dir_at self.entry.bytes.now self.entry.w self.entry.h x y) }
+    {
+        if y == 0 || self.h <= y + 1 || self.w < 2 {
+            dir.fill(0);
+            return;
+        }
+        let last = self.w - 1;
+        dir[0] = 0;
+        self.directions(&mut dir[1..last], 1, y);
+        dir[last] = 0;
     }
 }
 
@@ -139,6 +152,7 @@ pub fn sobel(input: &[u8], mag: &mut [i32], dir: &mut [u8], w: usize, h: usize)
     for y in 0..h {
         let start = y * w;
         let end = start + w;
-        plane.row(&mut mag[start..end], &mut dir[start..end], y);
+        plane.magnitudes(&mut mag[start..end], y);
+        plane.direction_row(&mut dir[start..end], y);
     }
 }

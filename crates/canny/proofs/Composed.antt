@@ -2,22 +2,10 @@
 use mathlib.Core.Path.{◌≡◌}
 use mathlib.Core.List.{List}
 use Prim.Native.Nat.{ℕ, ◌*◌, ◌≤◌, ◌<◌}
-use lib.IntN.{ℤ}
 use lib.ListN.{replicate}
 use borrow.Author.Tests.{lt-ltb, le-ltb}
-use Rattle.arch_sobel.specs.Sobel.{sobel_mag, sobel_dir}
-use Rattle.canny_marks.specs.Median.{median_of}
-use Rattle.canny_marks.specs.Marks.{low_mark, high_mark}
-use Rattle.canny_thin.specs.Thin.{thinned}
-use Rattle.canny_hysteresis.specs.Sweeps.{strong_pixels}
 use Rattle.dilate.specs.Dilate.{dilated}
-use Rattle.canny.specs.Edges.{class_plane, strong_plane, edge_plane}
-
-pub strong-is : (luma dir classes out : List ℕ) (mag : List ℤ) (w h m low high : ℕ) → m ≡ median_of luma → low ≡ low_mark m → high ≡ high_mark m
-    → mag ≡ sobel_mag luma w h → dir ≡ sobel_dir luma w h → classes ≡ thinned mag dir w h low high → out ≡ strong_pixels w h classes
-    → out ≡ strong_plane luma w h
-unfolding strong_plane class_plane
-strong-is luma dir classes out mag w h m low high p q r a b c d = cc
+use Rattle.canny.specs.Edges.{strong_plane, edge_plane}
 
 module _ (luma out : List ℕ) (w h k : ℕ) where
   pub narrow-is : {n : ℕ} → w < 3 → n ≡ w * h → out ≡ replicate n 0 → out ≡ edge_plane luma w h k

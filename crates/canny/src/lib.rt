@@ -6,7 +6,9 @@ ghost use Rattle.std.specs.Prelude.{◌≡◌, ◌*◌, ◌≤◌, length};
 ghost use Rattle.canny.specs.Edges.{strong_plane, edge_plane};
 
 // The strong pixels, 255 each. What mag holds afterwards is not promised.
+#[tactic(auto, unfolding(crate::specs::Edges::strong_plane, crate::specs::Edges::class_plane))]
 fn strong_plane(luma: &[u8], mag: &mut [i32], edges: &mut [u8], w: usize, h: usize)
+    requires w_bound { (w ≤ 4096) × (h ≤ 4096) }
     requires luma_len { length luma.now ≡ w * h }
     requires mag_len { (length mag.old ≡ w * h) × (length edges.old ≡ w * h) }
     ensures { edges.new ≡ strong_plane luma.now w h }
@@ -14,9 +16,8 @@ fn strong_plane(luma: &[u8], mag: &mut [i32], edges: &mut [u8], w: usize, h: usi
     let median = canny_marks::median_u8(luma);
     let low = canny_marks::low_threshold(median);
     let high = canny_marks::high_threshold(median);
-    arch_sobel::sobel(luma, mag, edges, w, h);
-    canny_thin::non_max_suppress(mag, edges, w, h, low, high);
-    canny_hysteresis::hysteresis(edges, w, h);
+    canny_thin::non_max_suppress(luma, mag, edges, w, h, low, high);
+    canny_hysteresis::hysteresis(edges, mag, w, h);
 }
 
 // The edge plane, with a window of k × k. mag is scratch: it keeps its length, and its contents afterwards are left open.

@@ -1,2 +1,4 @@
 pub mod Visits
 pub mod Strong
+pub mod Listing
+pub mod Places

@@ -1,2 +1,3 @@
 pub mod Near
-pub mod Rewritten
+pub mod Under
+pub mod Rows

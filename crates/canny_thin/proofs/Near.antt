@@ -1,22 +1,25 @@
 -- The two neighbours along a direction, by their places, and the class of a pixel by the tests that `class_at` makes.
-use mathlib.Core.Path.{◌≡◌, refl, ap, ◌∙◌}
+use mathlib.Core.Path.{◌≡◌, refl, sym, ap, ◌∙◌}
 use mathlib.Core.Bool.{Bool, true, false, cond, ◌&&◌, ◌||◌}
 use mathlib.Core.List.{List}
-use Prim.Native.Nat.{ℕ, zero, suc, ◌+◌, ◌-◌, ◌*◌, ◌≤◌, ◌<◌}
+use Prim.Native.Nat.{ℕ, zero, suc, ◌+◌, ◌-◌, ◌*◌, ◌/◌, ◌%◌, ◌<◌}
 use native.Mathlib.Omega.{arith}
 use lib.Dec.{eqb}
-use lib.ListN.{length, get_or, replicate, length-replicate, get_or-replicate}
+use lib.ListN.{length, get_or, replicate}
 use borrow.Author.Tests.{ne_eqb}
 use lib.IntN.{ℤ, pos}
 use lib.Signed.{le_z, lt_z}
 use mir.Val.{bool_byte}
+use Rattle.laws.specs.Lists.{tabulate, plane}
+use Rattle.laws.proofs.Grid.{row_lt, col-lt}
 use Rattle.laws.proofs.InPlace.{row_before}
-use Rattle.arch_sobel.specs.Sobel.{inner}
-use Rattle.laws.specs.Lists.{tabulate}
-use Rattle.laws.proofs.Tab.{is-tabulate}
-use Rattle.arch_sobel.proofs.Inner.{Within, within}
+use Rattle.laws.proofs.Planes.{get_d-plane}
+use Rattle.laws.proofs.Tab.{length-tabulate, get_d_tabulate, is-tabulate}
+use Rattle.arch_sobel.specs.Sobel.{inner, dir_at, sobel_dir}
+use Rattle.arch_sobel.proofs.Inner.{Within, cleared, not-inner}
+use Rattle.canny_thin.specs.Blocks.{class_in}
 use Rattle.canny_thin.specs.Step.{step_of, stays_by, stays_along}
-use Rattle.canny_thin.specs.Thin.{ahead, behind, stays, class_of, class_at, magnitude}
+use Rattle.canny_thin.specs.Thin.{ahead, behind, stays, class_of, class_at, thinned, magnitude}
 
 -- a test as a number
 pub bit_is : (t : Bool) → bool_byte t ≡ cond t 1 0
@@ -46,13 +49,6 @@ swap true false false = refl
 swap false a b = refl
 
 module _ (mag : List ℤ) (w h x y : ℕ) (W : Within w h x y (length mag)) where
-  -- the neighbours stand within the plane
-  pub near-in : y * w + x + (w + 1) < length mag
-  near-in = omega (arith, W.last)
-
-  pub near-back : w + 1 ≤ y * w + x
-  near-back = omega (arith, W.left, row_before y w W.top)
-
   at : {i j : ℕ} → i ≡ j → get_or mag i (pos 0) ≡ get_or mag j (pos 0)
   at e = ap (λ (n : ℕ). get_or mag n (pos 0)) e
 
@@ -99,12 +95,17 @@ module _ (mag : List ℤ) (w h low high d x y : ℕ) where
   class-border p = rw p
 
 -- a row of zeros is that of classes where it has no inner place
-pub class-zeros : (mag : List ℤ) (w h low high y n : ℕ) (row m : List ℕ) → n ≡ w → (0 < y → y + 1 < h → 1 < w → ⊥) → m ≡ replicate n 0
-    → m ≡ tabulate w (λ x. class_at mag w h low high (get_or row x 0) x y)
-class-zeros mag w h low high y n row m l o e =
-    is-tabulate 0 m w (λ x. class_at mag w h low high (get_or row x 0) x y) (ap length e ∙ length-replicate {A = ℕ} n 0 ∙ l)
-    (λ x b. ap (λ (t : List ℕ). get_or t x 0) e ∙ get_or-replicate {A = ℕ} n x 0 0 (omega (arith, l)) ∙ class-border mag w h low high (get_or row x 0) x y (outside x (inner w h x y) refl))
-  where
-    outside : (x : ℕ) (t : Bool) → inner w h x y ≡ t → inner w h x y ≡ false
-    outside x true q = let i = within w h x y (w * h) q refl in absurd (o i.top i.bottom (omega (arith, i.right)))
-    outside x false q = q
+pub class-zeros : (luma : List ℕ) (mag : List ℤ) (w h low high y n : ℕ) (m : List ℕ) → n ≡ w → (0 < y → y + 1 < h → 1 < w → ⊥) → m ≡ replicate n 0
+    → m ≡ tabulate w (λ x. class_in luma mag w h low high x y)
+class-zeros luma mag w h low high y n m l o e =
+    cleared 0 w n (λ x. class_in luma mag w h low high x y) m l (λ x b. class-border mag w h low high (dir_at luma w h x y) x y (not-inner w h x y o)) e
+
+-- the class plane, by the direction of each place and by the plane of directions
+pub by-directions : (luma : List ℕ) (mag : List ℤ) (w h low high : ℕ) (out : List ℕ) → out ≡ plane w h (class_in luma mag w h low high)
+    → out ≡ thinned mag (sobel_dir luma w h) w h low high
+unfolding thinned sobel_dir
+by-directions luma mag w h low high out e =
+    is-tabulate 0 out (w * h) _ (ap length e ∙ length-tabulate (w * h) _)
+    (λ i b.
+    ap (λ (t : List ℕ). get_or t i 0) e ∙ get_d_tabulate (w * h) _ 0 i b
+    ∙ ap (λ (d : ℕ). class_at mag w h low high d (i % w) (i / w)) (sym (get_d-plane 0 w h (dir_at luma w h) (i % w) (i / w) (col-lt i w h b) (row_lt i w h b))))

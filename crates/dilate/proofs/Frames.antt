@@ -1,52 +1,61 @@
--- The rows of a frame are its lines of step 1, w apart, and the columns those of step w, 1 apart.
+-- Along the rows, then down the columns and then up them: that is over the square.
 use mathlib.Core.Path.{◌≡◌, sym, ap, ◌∙◌}
 use mathlib.Core.List.{List}
-use Prim.Native.Nat.{ℕ, ◌+◌, ◌*◌, ◌/◌, ◌%◌, ◌<◌}
+use Prim.Native.Nat.{ℕ, ◌+◌, ◌-◌, ◌*◌, ◌/◌, ◌≤◌, ◌<◌, min}
+use native.Mathlib.Nat.{le_antisymm}
+use native.Mathlib.Decide.{dec_le}
 use native.Mathlib.Omega.{arith}
 use lib.ListN.{length, get_or}
-use Rattle.laws.proofs.Grid.{row_of, col-of}
-use Rattle.laws.proofs.Planes.{is-plane, place-lt}
+use Rattle.laws.specs.Lists.{max_in}
+use Rattle.laws.proofs.Max.{max-le, le-max, max-same}
+use Rattle.laws.proofs.Planes.{is-plane}
 use Rattle.dilate.specs.Dilate.{around, dilated}
-use Rattle.dilate.specs.Scratch.{line_of, Apart, LinesDilated}
-use Rattle.dilate.proofs.LinesDilated.{around-same}
 
-along : (x y w : ℕ) → 0 + x * 1 + y * w ≡ y * w + x
-along x y w = omega arith
-
-down : (x y w : ℕ) → 0 + y * w + x * 1 ≡ y * w + x
-down x y w = omega arith
-
--- column and row are known from the place
-same_place : (x y u v w : ℕ) → x < w → u < w → y * w + x ≡ v * w + u → (x ≡ u) × (y ≡ v)
-same_place x y u v w a b e =
-    (sym (col-of y w x a) ∙ ap (λ (n : ℕ). n % w) e ∙ col-of v w u b, sym (row_of y w x a) ∙ ap (λ (n : ℕ). n / w) e ∙ row_of v w u b)
-
-pub rows_apart : (w h size : ℕ) → size ≡ w * h → Apart 0 1 w w h size
-rows_apart w h size e = record {
-  inside = λ x y a b. omega (arith, place-lt x y w h a b, along x y w);
-  same = λ x y u v a b c d m. same_place x y u v w a c (sym (along x y w) ∙ m ∙ along u v w);
-}
-
-pub cols-apart : (w h size : ℕ) → size ≡ w * h → Apart 0 w 1 h w size
-cols-apart w h size e = record {
-  inside = λ y x a b. omega (arith, place-lt x y w h b a, down x y w);
-  same = λ y x v u a b c d m. let s = same_place x y u v w b d (sym (down x y w) ∙ m ∙ down u v w) in (s.1, s.0);
-}
-
--- along the rows and then along the columns is over the square
-pub rows-cols : (s l m : List ℕ) (w h k : ℕ) → length s ≡ w * h → LinesDilated s 0 1 w w (k / 2) h w l → LinesDilated l 0 w 1 h (k / 2) w h m → m ≡ dilated s w h k
-unfolding dilated
-rows-cols s l m w h k size R C =
-    is-plane 0 w h (λ x y. around h (k / 2) y (λ v. row x v)) m (C.len ∙ R.len ∙ size)
-    (λ x y p q. ap (λ (n : ℕ). get_or m n 0) (sym (down x y w))
-    ∙ C.on y x q p
-    ∙ around-same h (k / 2) y (line_of l 0 w 1 x) (λ v. row x v) (λ v c. at_row x v p c))
+-- place v counted up is row h - 1 - v: the largest of the half + 1 windows that reach on from a row to the half rows above it
+pub around-both : (h half y : ℕ) (g : ℕ → ℕ) → y < h
+    → max_in (h - 1 - y) (min h (h - 1 - y + (half + 1))) (λ v. max_in (h - 1 - v) (min h (h - 1 - v + (half + 1))) g) ≡ around h half y g
+unfolding around
+around-both h half y g b = le_antisymm below above
   where
-    row : ℕ → ℕ → ℕ
-    row x y = around w (k / 2) x (λ u. get_or s (y * w + u) 0)
+    below : max_in (h - 1 - y) (min h (h - 1 - y + (half + 1))) (λ v. max_in (h - 1 - v) (min h (h - 1 - v + (half + 1))) g) ≤ max_in (y - half) (min h (y + half + 1)) g
+    below =
+        max-le (h - 1 - y) (min h (h - 1 - y + (half + 1))) (λ v. max_in (h - 1 - v) (min h (h - 1 - v + (half + 1))) g) (max_in (y - half) (min h (y + half + 1)) g)
+        (λ v p q.
+        max-le (h - 1 - v) (min h (h - 1 - v + (half + 1))) g (max_in (y - half) (min h (y + half + 1)) g)
+        (λ u s t. le-max (y - half) (min h (y + half + 1)) g u (omega arith) (omega arith)))
 
-    at_row : (x v : ℕ) → x < w → v < h → line_of l 0 w 1 x v ≡ row x v
-    at_row x v p c =
-        ap (λ (n : ℕ). get_or l n 0) (down x v w ∙ sym (along x v w))
-        ∙ R.on x v p c
-        ∙ around-same w (k / 2) x (line_of s 0 1 w v) (λ u. get_or s (v * w + u) 0) (λ u d. ap (λ (n : ℕ). get_or s n 0) (along u v w))
+    -- row u is in the window of the place of v
+    by : (u v : ℕ) → h - 1 - y ≤ v → v < min h (h - 1 - y + (half + 1)) → h - 1 - v ≤ u → u < min h (h - 1 - v + (half + 1))
+        → g u ≤ max_in (h - 1 - y) (min h (h - 1 - y + (half + 1))) (λ v. max_in (h - 1 - v) (min h (h - 1 - v + (half + 1))) g)
+    by u v p q s t =
+        omega (
+          arith,
+          le-max (h - 1 - v) (min h (h - 1 - v + (half + 1))) g u s t,
+          le-max (h - 1 - y) (min h (h - 1 - y + (half + 1))) (λ v. max_in (h - 1 - v) (min h (h - 1 - v + (half + 1))) g) v p q,
+        )
+
+    each : (u : ℕ) → y - half ≤ u → u < min h (y + half + 1) → Dec (u ≤ y)
+        → g u ≤ max_in (h - 1 - y) (min h (h - 1 - y + (half + 1))) (λ v. max_in (h - 1 - v) (min h (h - 1 - v + (half + 1))) g)
+    each u s t (yes d) = by u (h - 1 - u) (omega arith) (omega arith) (omega arith) (omega arith)
+    each u s t (no d) = by u (h - 1 - y) (omega arith) (omega arith) (omega (arith, d)) (omega arith)
+
+    above : max_in (y - half) (min h (y + half + 1)) g ≤ max_in (h - 1 - y) (min h (h - 1 - y + (half + 1))) (λ v. max_in (h - 1 - v) (min h (h - 1 - v + (half + 1))) g)
+    above =
+        max-le (y - half) (min h (y + half + 1)) g (max_in (h - 1 - y) (min h (h - 1 - y + (half + 1))) (λ v. max_in (h - 1 - v) (min h (h - 1 - v + (half + 1))) g))
+        (λ u s t. each u s t (dec_le u y))
+
+pub over-square : (s l₁ l₂ m : List ℕ) (w h k n : ℕ) → length m ≡ w * h → n ≡ w
+    → ((x y : ℕ) → x < n → y < h → get_or l₁ (y * n + x) 0 ≡ around n (k / 2) x (λ u. get_or s (y * n + u) 0))
+    → ((x v : ℕ) → x < w → v < h → get_or l₂ (v * w + x) 0 ≡ max_in v (min h (v + (k / 2 + 1))) (λ v. get_or l₁ (v * w + x) 0))
+    → ((x v : ℕ) → x < w → v < h → get_or m ((h - 1 - v) * w + x) 0 ≡ max_in v (min h (v + (k / 2 + 1))) (λ u. get_or l₂ ((h - 1 - u) * w + x) 0)) → m ≡ dilated s w h k
+unfolding dilated around
+over-square s l₁ l₂ m w h k n size e rows down up =
+    is-plane 0 w h (λ x y. around h (k / 2) y (λ v. around w (k / 2) x (λ u. get_or s (v * w + u) 0))) m size
+    (λ x y p q.
+    let back : h - 1 - (h - 1 - y) ≡ y = omega arith in
+    ap (λ (j : ℕ). get_or m (j * w + x) 0) (sym back)
+    ∙ up x (h - 1 - y) p (omega arith)
+    ∙ max-same (h - 1 - y) (min h (h - 1 - y + (k / 2 + 1))) (λ u. get_or l₂ ((h - 1 - u) * w + x) 0) (λ v. max_in (h - 1 - v) (min h (h - 1 - v + (k / 2 + 1))) (λ v. get_or l₁ (v * w + x) 0))
+    (λ v a b. down x (h - 1 - v) p (omega arith))
+    ∙ around-both h (k / 2) y (λ v. get_or l₁ (v * w + x) 0) q
+    ∙ max-same (y - k / 2) (min h (y + k / 2 + 1)) (λ v. get_or l₁ (v * w + x) 0) (λ v. around w (k / 2) x (λ u. get_or s (v * w + u) 0)) (λ v a b. rw e at rows x v (omega arith) (omega arith)))

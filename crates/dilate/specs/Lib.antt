@@ -1,2 +1,2 @@
 pub mod Dilate
-pub mod Scratch
+pub mod Places

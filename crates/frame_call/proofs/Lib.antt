@@ -1,4 +1,4 @@
-pub mod Filled
+pub mod Planes
 pub mod Returned
 pub mod Numbers
 pub mod Runs

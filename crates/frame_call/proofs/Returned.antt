@@ -1,47 +1,42 @@
 -- What an accepted frame call promises, over plain values; and what a detector's call then promises.
 use mathlib.Core.Path.{◌≡◌, refl, sym, ap, ◌∙◌}
 use mathlib.Core.Bool.{Bool}
-use mathlib.Core.List.{List, ◌++◌}
-use Prim.Native.Nat.{ℕ, ◌*◌}
+use mathlib.Core.List.{List}
+use Prim.Native.Nat.{ℕ}
 use native.Mathlib.Omega.{arith}
 use lib.IntN.{ℤ}
 use lib.ListN.{length}
 use borrow.Author.Tests.{eq-eqb}
 use Rattle.timestamp.specs.declared.Timestamp.{Timestamp}
 use Rattle.stream.specs.declared.Stream.{Stream}
-use Rattle.scoring.specs.Planes.{Planes, joined, planes_in}
+use Rattle.scoring.specs.Planes.{Planes}
 use Rattle.frame_call.specs.declared.PictureOptions.{PictureOptions}
-use Rattle.frame_call.specs.Call.{PictureAnswer, Memory, frame_number, Outcome, accepted, pictured, answered_by, outcome_of, luma, memory, Called, Sized}
-use Rattle.frame_call.proofs.Filled.{planes-of}
+use Rattle.frame_call.specs.Call.{PictureAnswer, Memory, frame_number, Outcome, accepted, pictured, answered_by, outcome_of, luma, memory, Called}
 
 module _ (s : Stream) (o : PictureOptions) (bad : Bool) (u w h : ℕ) (p : Planes) (m : Memory) where
   is-accepted : frame_number bad u w h m ≡ 0 → pictured s o bad u w h p m ≡ accepted s o w h p m.store
   unfolding pictured
   is-accepted z = rw (eq-eqb (frame_number bad u w h m) 0 z)
 
-  module _ (filled rest : List ℕ) (sized : Sized (w * h) p) (e : filled ≡ joined p) where
-    planes : planes_in (w * h) (filled ++ rest) ≡ p
-    planes = ap (λ (l : List ℕ). planes_in (w * h) (l ++ rest)) e ∙ planes-of (w * h) p rest sized
+  abbrev took : Outcome PictureAnswer
+  took = accepted s o w h p m.store
 
-    abbrev took : Outcome PictureAnswer
-    took = accepted s o w h (planes_in (w * h) (filled ++ rest)) m.store
+  took_number : took.answer.number ≡ 0
+  unfolding accepted
+  took_number = refl
 
-    took_number : took.answer.number ≡ 0
-    unfolding accepted
-    took_number = refl
-
-    pub called-accepted : (r : PictureAnswer) (m' : Memory) → frame_number bad u w h m ≡ 0 → r ≡ took.answer → m'.store ≡ took.store
-        → length m'.scratch ≡ length m.scratch → length m'.magnitudes ≡ length m.magnitudes
-        → Called (pictured s o bad u w h p m) r r.number m m'
-    called-accepted r m' z a b l₁ l₂ =
-        let q : took ≡ pictured s o bad u w h p m = ap (λ (x : Planes). accepted s o w h x m.store) planes ∙ sym (is-accepted z) in
-        record {
-          answered = a ∙ ap (λ (x : Outcome PictureAnswer). x.answer) q;
-          stored = b ∙ ap (λ (x : Outcome PictureAnswer). x.store) q;
-          scratch-length = l₁;
-          magnitudes-length = l₂;
-          refused = λ n. absurd (omega (arith, ap (λ (x : PictureAnswer). x.number) a, took_number));
-        }
+  pub called-accepted : (r : PictureAnswer) (m' : Memory) → frame_number bad u w h m ≡ 0 → r ≡ took.answer → m'.store ≡ took.store
+      → length m'.scratch ≡ length m.scratch → length m'.magnitudes ≡ length m.magnitudes
+      → Called (pictured s o bad u w h p m) r r.number m m'
+  called-accepted r m' z a b l₁ l₂ =
+      let q : took ≡ pictured s o bad u w h p m = sym (is-accepted z) in
+      record {
+        answered = a ∙ ap (λ (x : Outcome PictureAnswer). x.answer) q;
+        stored = b ∙ ap (λ (x : Outcome PictureAnswer). x.store) q;
+        scratch-length = l₁;
+        magnitudes-length = l₂;
+        refused = λ n. absurd (omega (arith, ap (λ (x : PictureAnswer). x.number) a, took_number));
+      }
 
 -- a detector's call, by that of its frame: the answer is by the picture, and so is the answer's number
 pub called-by : {A : Type 0} (stepped : PictureAnswer → A) (refused : ℕ → A) (p : Outcome PictureAnswer) (q : PictureAnswer) (r : A) (n : ℕ) (m m' : Memory)

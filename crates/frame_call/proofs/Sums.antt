@@ -21,7 +21,7 @@ use Rattle.stream.specs.Stream.{no_sums, components_of, components_shown, is_sco
 use Rattle.frame_call.specs.declared.PictureOptions.{PictureOptions}
 use Rattle.frame_call.specs.Call.{PictureAnswer, Memory, Call, luma, bgr, hsv, clear, frame_number, sums_of, accepted, pictured, answered_by, outcome_of, Sized}
 use Rattle.frame_call.specs.Earlier.{pixels_of}
-use Rattle.frame_call.proofs.Filled.{luma_sized, bgr_sized, hsv_sized}
+use Rattle.frame_call.proofs.Planes.{luma_sized, bgr_sized, hsv_sized}
 use Rattle.frame_call.proofs.Runs.{if-accepted, if-refused}
 
 -- ---- a score that is there, and one that is not

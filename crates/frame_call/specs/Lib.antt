@@ -1,3 +1,4 @@
 pub mod Call
 pub mod Run
 pub mod Earlier
+pub mod PairMut

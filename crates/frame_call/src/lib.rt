@@ -6,14 +6,16 @@
 #![tactic(auto)]
 
 ghost use Rattle.std.specs.Prelude.{◌≡◌, ℕ, List, ◌*◌, ◌≤◌, length, OnOk};
-ghost use Rattle.std.specs.Fn.{FnOnceTakesAtMut, FnOnceReturnsAtMut};
 ghost use Rattle.refusal.specs.Refusal.{number_in};
 ghost use Rattle.frame.specs.Checks.{luma_refusal, bgr_refusal, hsv_refusal};
 ghost use Rattle.scoring.specs.Planes.{luma_frame, bgr_frame, hsv_frame, Planes, joined};
+ghost use Rattle.scoring.specs.Sums.{plane_sums};
 ghost use Rattle.frame_call.specs.Call.{memory, pictured, picture_in, Called, Sized};
+ghost use Rattle.frame_call.specs.PairMut.{FnOnceTakesAtPairMut, FnOnceReturnsAtPairMut};
 
 use refusal::Refusal;
 use score::Components;
+use scoring::FrameScoring;
 use stream::{Stream, Sums};
 
 // The settings that a frame's picture is scored by.
@@ -30,9 +32,10 @@ pub struct Picture {
     pub sums: Sums,
 }
 
-// A frame of any kind, by its check: `fill` writes its planes at the start of the scratch.
+// A frame of any kind, by its check: `replace` makes its planes take the place of the first three in the store, a BGR frame's by way of as
+// many bytes of the scratch, and gives the sums of their differences.
 #[tactic(auto, using(std::proofs::lemmas::Result::err_from_is_err_and, refusal::proofs::Numbers::positive), unfolding(crate::specs::Call::pictured, crate::specs::Call::call_refusal, stream::specs::Stream::memory_refusal))]
-fn process<F: FnOnce(&mut [u8])>(
+fn process<F: FnOnce(&mut [u8], &mut [u8]) -> Sums>(
     s: Stream,
     o: PictureOptions,
     bad: bool,
@@ -42,29 +45,27 @@ fn process<F: FnOnce(&mut [u8])>(
     store: &mut [u8],
     scratch: &mut [u8],
     magnitudes: &mut [i32],
-    fill: F,
+    replace: F,
 ) -> Result<Picture, Refusal>
     requires sides { OnOk frame ((width ≤ 4096) × (height ≤ 4096)) }
-    requires callable { OnOk frame ((x : List ℕ) → length x ≡ 3 * (width * height) → FnOnceTakesAtMut F.FnOnce fill x) }
-    ensures { (p : Planes) → Sized (width * height) p → ((x y : List ℕ) → FnOnceReturnsAtMut F.FnOnce fill x tt y → y ≡ joined p) → Called (pictured s o bad (number_in frame) width height p (memory store.old scratch.old magnitudes.old)) (picture_in s result) (picture_in s result).number (memory store.old scratch.old magnitudes.old) (memory store.new scratch.new magnitudes.new) }
+    requires callable { OnOk frame ((x y : List ℕ) → length x ≡ 3 * (width * height) → length y ≡ 3 * (width * height) → FnOnceTakesAtPairMut F.FnOnce replace x y) }
+    ensures { (p : Planes) → Sized (width * height) p → ((x y x' y' : List ℕ) (sums : Sums) → FnOnceReturnsAtPairMut F.FnOnce replace x y sums x' y' → (x' ≡ joined p) × (sums ≡ plane_sums (width * height) p 0 x)) → Called (pictured s o bad (number_in frame) width height p (memory store.old scratch.old magnitudes.old)) (picture_in s result) (picture_in s result).number (memory store.old scratch.old magnitudes.old) (memory store.new scratch.new magnitudes.new) }
 {
     if bad {
         return Err(Refusal::BadState);
     }
     frame?;
     stream::check_memory(store.len(), scratch.len(), magnitudes.len(), width, height)?;
-    let e = 3 * (width as usize * height as usize);
-    fill(&mut scratch[..e]);
-    let sums = scoring::frame_sums(
-        store,
-        scratch,
-        magnitudes,
-        width as usize,
-        height as usize,
-        score::edges_enabled(o.weights),
-        scoring::kernel(o.kernel_size, width, height),
-        stream::is_scored(s, width, height),
-    );
+    let w = width as usize;
+    let h = height as usize;
+    let e = 3 * (w * h);
+    let how = FrameScoring {
+        edges: score::edges_enabled(o.weights),
+        k: scoring::kernel(o.kernel_size, width, height),
+        scored: stream::is_scored(s, width, height),
+    };
+    let planes = replace(&mut store[..e], &mut scratch[..e]);
+    let sums = scoring::frame_sums(store, scratch, magnitudes, w, h, how, planes);
     Ok(Picture {
         stream: stream::next_stream(s, width, height, o.weights, sums),
         sums,
@@ -72,7 +73,7 @@ fn process<F: FnOnce(&mut [u8])>(
 }
 
 // A luma frame.
-#[tactic(auto, using(crate::proofs::Filled::luma_sized))]
+#[tactic(auto, using(crate::proofs::Planes::luma_sized))]
 pub fn process_luma(
     s: Stream,
     o: PictureOptions,
@@ -100,12 +101,12 @@ pub fn process_luma(
         store,
         scratch,
         magnitudes,
-        |current| scoring::fill_luma(current, plane, w, h, stride as usize),
+        |planes, _made| scoring::replace_luma(planes, plane, w, h, stride as usize),
     )
 }
 
 // A BGR frame.
-#[tactic(auto, using(crate::proofs::Filled::bgr_sized))]
+#[tactic(auto, using(crate::proofs::Planes::bgr_sized))]
 pub fn process_bgr(
     s: Stream,
     o: PictureOptions,
@@ -133,12 +134,12 @@ pub fn process_bgr(
         store,
         scratch,
         magnitudes,
-        |current| scoring::fill_bgr(current, pixels, w, h, stride as usize),
+        |planes, made| scoring::replace_bgr(planes, made, pixels, w, h, stride as usize),
     )
 }
 
 // An HSV frame.
-#[tactic(auto, using(crate::proofs::Filled::hsv_sized))]
+#[tactic(auto, using(crate::proofs::Planes::hsv_sized))]
 pub fn process_hsv(
     s: Stream,
     o: PictureOptions,
@@ -168,6 +169,6 @@ pub fn process_hsv(
         store,
         scratch,
         magnitudes,
-        |current| scoring::fill_hsv(current, hue, saturation, value, w, h, stride as usize),
+        |planes, _made| scoring::replace_hsv(planes, hue, saturation, value, w, h, stride as usize),
     )
 }

@@ -1,10 +1,9 @@
 -- Lists made of parts, one after the other: what a part reads, and what writing a part leaves. A part that lies past x is a part of
 -- what follows x.
-use mathlib.Core.Path.{◌≡◌, sym, ◌∙◌}
-use mathlib.Core.List.{List, [], ◌++◌, append_assoc, append-nil}
-use Prim.Native.Nat.{ℕ, ◌+◌, ◌-◌, ◌*◌}
-use native.Mathlib.Omega.{arith}
-use lib.ListN.{length, take, drop, take-append-drop, length-append, length-drop, drop_of_length-le}
+use mathlib.Core.Path.{◌≡◌, sym}
+use mathlib.Core.List.{List, ◌++◌, append_assoc}
+use Prim.Native.Nat.{ℕ, ◌+◌}
+use lib.ListN.{length, take, drop, take-append-drop}
 use lib.Seq.{take_at, drop_at, take-append-add, drop-append-add}
 use borrow.Rule.Slice.PartMut.{put_mid}
 
@@ -37,24 +36,3 @@ split k l = sym (take-append-drop k l)
 -- a part that follows x at once
 pub next-put : {A : Type 0} (x l : List A) (m k : ℕ) (v : List A) → length x ≡ m → put_mid m k (x ++ l) v ≡ x ++ (v ++ drop k l)
 next-put x l m k v e = rw (take_at x l m e, drop_at x l m e)
-
--- a list of three planes of n elements, each written whole
-pub three-puts : {A : Type 0} (n : ℕ) (l a b c a' b' c' : List A) → length l ≡ 3 * n → a ≡ a' → b ≡ b' → c ≡ c' → length a' ≡ n → length b' ≡ n
-    → put_mid (n + n) (n + (n + n) - (n + n)) (put_mid n (n + n - n) (a ++ drop (n - 0) l) b) c ≡ a' ++ (b' ++ c')
-three-puts n l a b c a' b' c' e ea eb ec la lb =
-    let k₀ : n - 0 ≡ n = omega arith in
-    let k₁ : n + n - n ≡ n = omega arith in
-    let k₂ : n + (n + n) - (n + n) ≡ n = omega arith in
-    let r = drop n l in
-    let none : drop n (drop n r) ≡ [] = drop_of_length-le (drop n r) {i = n} (omega (arith, length-drop n r, length-drop n l)) in
-    rw (k₁, k₂, k₀, ea, eb, ec, next-put a' r n n b' la, ← append_assoc a' b' (drop n r))
-    (next-put (a' ++ b') (drop n r) (n + n) n c' (omega (arith, length-append a' b')) ∙ rw (none, append-nil c') (append_assoc a' b' c'))
-
--- the first m elements written, and then the n that follow
-pub two-puts : {A : Type 0} (m n : ℕ) (l a b a' b' : List A) → length l ≡ n + m → a ≡ a' → b ≡ b' → length a' ≡ m
-    → put_mid m (n + m - m) (a ++ drop (m - 0) l) b ≡ a' ++ b'
-two-puts m n l a b a' b' e ea eb la =
-    let k₀ : m - 0 ≡ m = omega arith in
-    let k₁ : n + m - m ≡ n = omega arith in
-    let none : drop n (drop m l) ≡ [] = drop_of_length-le (drop m l) {i = n} (omega (arith, length-drop m l)) in
-    rw (k₁, k₀, ea, eb) (next-put a' (drop m l) m n b' la ∙ rw (none, append-nil b'))

@@ -19,9 +19,9 @@ use std::io;
 fn one(run: Run, case: Case, k: u32) -> Run
     ensures { result ≡ edged run (case.w * case.h) case.w case.h k case.kind }
 {
-    let mut luma = [0u8; 576];
-    let mut mag = [0i32; 576];
-    let mut edges = [0u8; 576];
+    let mut luma = [0u8; 600];
+    let mut mag = [0i32; 600];
+    let mut edges = [0u8; 600];
     let n = case.pixels();
     let luma = &mut luma[..n];
     let edges = &mut edges[..n];
@@ -42,17 +42,19 @@ fn side(i: usize) -> u32
     SIDES[i]
 }
 
-// The heights 0 to 24, six kinds and four windows each.
+// The heights from 0 on, six kinds and four windows each.
 #[tactic(auto, unfolding(crate::specs::Edges::batch_of))]
-fn batch(w: usize) -> Digest
-    requires { w ≤ 24 }
-    ensures { result ≡ (batch_of w 600).digest }
+fn batch(w: usize, heights: usize) -> Digest
+    requires w_bound { w ≤ 100 }
+    requires heights_bound { heights ≤ 25 }
+    requires small { w * heights ≤ 600 }
+    ensures { result ≡ (batch_of w (heights * 24)).digest }
 {
     let mut run = Run {
         x: w as u32,
         digest: Digest::empty(),
     };
-    for c in 0..600usize {
+    for c in 0..heights * 24 {
         let case = Case {
             w,
             h: c / 24,
@@ -66,7 +68,16 @@ fn batch(w: usize) -> Digest
 // The widths 0 to 24, a line each.
 fn lines(rt: &impl Print, name: &str) -> io::Result<()> {
     for w in 0..=24usize {
-        replay::print_line(rt, name, w as u64, batch(w).value())?;
+        replay::print_line(rt, name, w as u64, batch(w, 25).value())?;
+    }
+    Ok(())
+}
+
+// The widths 25 to 100, a line each, of few heights: rows of up to four blocks of places that are thinned together, and of up to two that are searched
+// for weak pixels.
+fn wide_lines(rt: &impl Print, name: &str) -> io::Result<()> {
+    for w in 25..=100usize {
+        replay::print_line(rt, name, w as u64, batch(w, 6).value())?;
     }
     Ok(())
 }
@@ -119,6 +130,7 @@ fn windows() -> Digest
 
 fn main(rt: HostRuntime) -> io::Result<()> {
     lines(&rt, "edges")?;
+    wide_lines(&rt, "wide")?;
     replay::print_line(&rt, "still", 28, frame(&STILL, 7, 4).value())?;
     replay::print_line(&rt, "capped", 12, frame(&CAPPED, 3, 4).value())?;
     replay::print_line(&rt, "marks", 256, marks().value())?;

@@ -1,5 +1,4 @@
-pub mod Lengths
-pub mod Memory
-pub mod Framed
+pub mod Parts
+pub mod Stored
 pub mod NoPixels
 pub mod Means

@@ -31,8 +31,8 @@ hsv_frame h s v width height stride = record { hue = packed h width height strid
 abbrev pub joined : Planes → List ℕ
 joined p = p.hue ++ (p.saturation ++ p.luma)
 
--- The store's first 4n bytes are the last frame's hue, saturation, luma and edge planes, n bytes each (RULES 12.2); the scratch has the
--- present frame's at the same places. Bytes from 4n on are the rest.
+-- The store's first 4n bytes are the last frame's hue, saturation, luma and edge planes, n bytes each (RULES 12.2). Bytes from 4n on are the
+-- rest.
 abbrev pub hue_part : ℕ → List ℕ → List ℕ
 hue_part n s = take n s
 
@@ -47,7 +47,3 @@ edge_part n s = take n (drop (n + (n + n)) s)
 
 abbrev pub rest_part : ℕ → List ℕ → List ℕ
 rest_part n s = drop (n + (n + (n + n))) s
-
--- the first three planes of a store or a scratch
-abbrev pub planes_in : ℕ → List ℕ → Planes
-planes_in n s = record { hue = hue_part n s; saturation = saturation_part n s; luma = luma_part n s }

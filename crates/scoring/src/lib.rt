@@ -1,137 +1,121 @@
 // What both detectors do with a frame's pixels: its packed planes (RULES 2.7), the sums of their differences with those of the store
-// (RULES 4.3, 4.4), and the store after it (RULES 12.3).
-// Kept, point 5: the frame's numbers are plain parameters (RULES 16.1). That `current` is three planes long is asked by three functions, each called once.
-// Kept, point 2: luma, BGR and HSV planes are made in three ways, a function for each.
+// (RULES 4.3, 4.4), and the store after it (RULES 12.3). A plane takes its place in the store row by row, and its differences with what
+// stood there are summed at the same time.
+// Kept, point 5: the frame's numbers are plain parameters (RULES 16.1). That `planes` is three planes long is asked by three functions,
+// each with one or two callers.
+// Kept, point 2: luma, BGR and HSV planes come in three ways, a function for each.
 #![tactic(auto)]
 
-ghost use Rattle.std.specs.Prelude.{◌≡◌, cond, ◌++◌, ℕ, ◌+◌, ◌*◌, ◌^◌, ◌<◌, ◌≤◌, length, take, drop};
-ghost use Rattle.scoring.specs.Planes.{joined, luma_frame, bgr_frame, hsv_frame, planes_in, luma_part, edge_part, rest_part};
-ghost use Rattle.scoring.specs.Sums.{plane_sums, kernel_of, frame_sums, store_after};
+ghost use Rattle.std.specs.Prelude.{◌≡◌, cond, ℕ, ◌+◌, ◌*◌, ◌<◌, ◌≤◌, length};
+ghost use Rattle.scoring.specs.Planes.{joined, luma_frame, bgr_frame, hsv_frame, luma_part, edge_part};
+ghost use Rattle.scoring.specs.Sums.{plane_sums, kernel_of};
+ghost use Rattle.scoring.specs.Replaced.{with_edge_plane, with_edge_sum};
 ghost use Rattle.arch_planes.specs.Difference.{sum_abs_diff};
 ghost use Rattle.stream.specs.Stream.{no_sums};
 ghost use Rattle.canny.specs.Edges.{edge_plane};
 
 use stream::Sums;
 
-// The three planes of a luma frame, in `current`, which is 3 * w * h bytes long.
-pub fn fill_luma(current: &mut [u8], plane: &[u8], w: usize, h: usize, stride: usize)
-    requires current_len { length current.old ≡ 3 * (w * h) }
+// The planes of a luma frame take the place of those in `planes`, which is 3 * w * h bytes long. The sums of their differences; the edge
+// sum is 0.
+#[tactic(auto, using(crate::proofs::Parts::last_of_three), unfolding(crate::specs::Planes::luma_frame))]
+pub fn replace_luma(planes: &mut [u8], plane: &[u8], w: usize, h: usize, stride: usize) -> Sums
+    requires planes_len { length planes.old ≡ 3 * (w * h) }
+    requires sides { (w ≤ 4096) × (h ≤ 4096) }
     requires by_index { (y : ℕ) → y < h → y * stride + w ≤ length plane.now }
-    ensures { current.new ≡ joined (luma_frame plane.now w h stride) }
+    ensures value { result ≡ plane_sums (w * h) (luma_frame plane.now w h stride) 0 planes.old }
+    ensures replaced { planes.new ≡ joined (luma_frame plane.now w h stride) }
 {
     let n = w * h;
-    let m = n + n;
-    let e = n + m;
-    current[0..m].fill(0);
-    arch_planes::copy_plane(&mut current[m..e], plane, w, h, stride);
+    let (hue, rest) = planes.split_at_mut(n);
+    let (saturation, luma) = rest.split_at_mut(n);
+    Sums {
+        hue: arch_planes::clear_plane(hue, w, h),
+        saturation: arch_planes::clear_plane(saturation, w, h),
+        luma: arch_planes::replace_plane(luma, plane, w, h, stride),
+        edges: 0,
+        count: n as u32,
+    }
 }
 
-// The three planes of a BGR frame.
-#[tactic(auto, unfolding(crate::specs::Planes::bgr_frame, arch_hsv::specs::Hsv::hsv_planes))]
-pub fn fill_bgr(current: &mut [u8], pixels: &[u8], w: usize, h: usize, stride: usize)
-    requires current_len { length current.old ≡ 3 * (w * h) }
-    requires by_index { (y : ℕ) → y < h → y * stride + 3 * w ≤ length pixels.now }
-    ensures { current.new ≡ joined (bgr_frame pixels.now w h stride) }
-{
-    arch_hsv::bgr_to_hsv_planes(current, pixels, w, h, stride);
-}
-
-// The three planes of an HSV frame.
-pub fn fill_hsv(
-    current: &mut [u8],
+// The same with the planes of an HSV frame.
+#[tactic(auto, using(crate::proofs::Parts::last_of_three), unfolding(crate::specs::Planes::hsv_frame))]
+pub fn replace_hsv(
+    planes: &mut [u8],
     hue: &[u8],
     saturation: &[u8],
     value: &[u8],
     w: usize,
     h: usize,
     stride: usize,
-)
-    requires current_len { length current.old ≡ 3 * (w * h) }
+) -> Sums
+    requires planes_len { length planes.old ≡ 3 * (w * h) }
+    requires sides { (w ≤ 4096) × (h ≤ 4096) }
     requires by_index { (y : ℕ) → y < h → y * stride + w ≤ length hue.now }
     requires by_index_2 { (y : ℕ) → y < h → y * stride + w ≤ length saturation.now }
     requires by_index_3 { (y : ℕ) → y < h → y * stride + w ≤ length value.now }
-    ensures { current.new ≡ joined (hsv_frame hue.now saturation.now value.now w h stride) }
+    ensures value { result ≡ plane_sums (w * h) (hsv_frame hue.now saturation.now value.now w h stride) 0 planes.old }
+    ensures replaced { planes.new ≡ joined (hsv_frame hue.now saturation.now value.now w h stride) }
 {
     let n = w * h;
-    let m = n + n;
-    let e = n + m;
-    arch_planes::copy_plane(&mut current[0..n], hue, w, h, stride);
-    arch_planes::copy_plane(&mut current[n..m], saturation, w, h, stride);
-    arch_planes::copy_plane(&mut current[m..e], value, w, h, stride);
-}
-
-// A frame's planes, in the scratch, beside the last frame's, in the store: hue, saturation, luma and edges, n bytes each.
-#[derive(Clone, Copy)]
-struct Pair<'a> {
-    scratch: &'a [u8],
-    store: &'a [u8],
-    n: usize,
-    ghost n_bound: { n ≤ 2 ^ 24 },
-    ghost scratch_room: { n + (n + (n + n)) ≤ length scratch.now },
-    ghost store_room: { n + (n + (n + n)) ≤ length store.now },
-}
-
-impl<'a> Pair<'a> {
-    // The sums of the first three planes; the edge sum is 0.
-    #[tactic(auto, unfolding(arch_planes::specs::Difference::mean_abs_diff))]
-    fn plane_sums(self) -> Sums
-        ensures { result ≡ plane_sums self.entry.n (planes_in self.entry.n self.entry.scratch.now) 0 self.entry.store.now }
-    {
-        // Kept: one name for what stands in six slices.
-        let n = self.n;
-        let m = 2 * n;
-        let e = 3 * n;
-        let hue = arch_planes::mean_abs_diff(&self.scratch[..n], &self.store[..n]);
-        let saturation = arch_planes::mean_abs_diff(&self.scratch[n..m], &self.store[n..m]);
-        let luma = arch_planes::mean_abs_diff(&self.scratch[m..e], &self.store[m..e]);
-        Sums {
-            hue: hue.sum,
-            saturation: saturation.sum,
-            luma: luma.sum,
-            edges: 0,
-            count: luma.count,
-        }
-    }
-
-    // The same of a scored frame, and none of another.
-    fn sums_if(self, scored: bool) -> Sums
-        ensures { result ≡ cond scored (plane_sums self.entry.n (planes_in self.entry.n self.entry.scratch.now) 0 self.entry.store.now) no_sums }
-    {
-        if scored {
-            self.plane_sums()
-        } else {
-            stream::no_sums()
-        }
-    }
-
-    // The sum of the edge planes' differences of a scored frame; 0 of another.
-    #[tactic(auto, unfolding(arch_planes::specs::Difference::mean_abs_diff))]
-    fn edge_sum_if(self, scored: bool) -> u32
-        ensures { result ≡ cond scored (sum_abs_diff (edge_part self.entry.n self.entry.scratch.now) (edge_part self.entry.n self.entry.store.now)) 0 }
-    {
-        if scored {
-            let e = 3 * self.n;
-            let f = 4 * self.n;
-            arch_planes::mean_abs_diff(&self.scratch[e..f], &self.store[e..f]).sum
-        } else {
-            0
-        }
+    let (stored_hue, rest) = planes.split_at_mut(n);
+    let (stored_saturation, stored_luma) = rest.split_at_mut(n);
+    Sums {
+        hue: arch_planes::replace_plane(stored_hue, hue, w, h, stride),
+        saturation: arch_planes::replace_plane(stored_saturation, saturation, w, h, stride),
+        luma: arch_planes::replace_plane(stored_luma, value, w, h, stride),
+        edges: 0,
+        count: n as u32,
     }
 }
 
-// The edge plane of the stored luma, in the fourth plane of the scratch.
-fn fill_edges(scratch: &mut [u8], store: &[u8], mag: &mut [i32], w: usize, h: usize, k: u32)
-    requires w_bound { (w ≤ 4096) × (h ≤ 4096) }
-    requires h_in_bounds { w * h + (w * h + (w * h + w * h)) ≤ length scratch.old }
-    requires h_in_bounds_2 { w * h + (w * h + w * h) ≤ length store.now }
-    requires h_in_bounds_3 { w * h ≤ length mag.old }
-    ensures { edge_part (w * h) scratch.new ≡ edge_plane (luma_part (w * h) store.now) w h k }
+// The same with the planes that a BGR frame is converted to, in `made`, which is as long as `planes`.
+#[tactic(auto, using(crate::proofs::Parts::made_frame, crate::proofs::Parts::converted))]
+pub fn replace_bgr(
+    planes: &mut [u8],
+    made: &mut [u8],
+    pixels: &[u8],
+    w: usize,
+    h: usize,
+    stride: usize,
+) -> Sums
+    requires planes_len { length planes.old ≡ 3 * (w * h) }
+    requires made_len { length made.old ≡ 3 * (w * h) }
+    requires sides { (w ≤ 4096) × (h ≤ 4096) }
+    requires by_index { (y : ℕ) → y < h → y * stride + 3 * w ≤ length pixels.now }
+    ensures value { result ≡ plane_sums (w * h) (bgr_frame pixels.now w h stride) 0 planes.old }
+    ensures replaced { planes.new ≡ joined (bgr_frame pixels.now w h stride) }
+    ensures made { made.new ≡ joined (bgr_frame pixels.now w h stride) }
+{
+    arch_hsv::bgr_to_hsv_planes(made, pixels, w, h, stride);
+    let n = w * h;
+    let (hue, rest) = made.split_at(n);
+    let (saturation, value) = rest.split_at(n);
+    replace_hsv(planes, hue, saturation, value, w, h, w)
+}
+
+// The edge plane of the stored luma takes the place of the fourth plane of the store. The sum of their differences.
+fn replace_edges(
+    store: &mut [u8],
+    scratch: &mut [u8],
+    mag: &mut [i32],
+    w: usize,
+    h: usize,
+    k: u32,
+) -> u32
+    requires sides { (w ≤ 4096) × (h ≤ 4096) }
+    requires store_room { w * h + (w * h + (w * h + w * h)) ≤ length store.old }
+    requires scratch_room { w * h ≤ length scratch.old }
+    requires mag_room { w * h ≤ length mag.old }
+    ensures value { result ≡ sum_abs_diff (edge_plane (luma_part (w * h) store.old) w h k) (edge_part (w * h) store.old) }
+    ensures replaced { store.new ≡ with_edge_plane (w * h) (edge_plane (luma_part (w * h) store.old) w h k) store.old }
 {
     let n = w * h;
-    let m = 2 * n;
-    let e = 3 * n;
-    let f = 4 * n;
-    canny::edge_plane(&store[m..e], &mut mag[..n], &mut scratch[e..f], w, h, k);
+    let (planes, rest) = store.split_at_mut(n + (n + n));
+    let (stored, _) = rest.split_at_mut(n);
+    let made = &mut scratch[..n];
+    canny::edge_plane(&planes[n + n..], &mut mag[..n], made, w, h, k);
+    arch_planes::replace_plane(stored, made, w, h, w)
 }
 
 // k as set, or by the frame's size.
@@ -141,40 +125,45 @@ pub fn kernel(kernel_size: Option<u32>, width: u32, height: u32) -> u32
     kernel_size.unwrap_or_else(|| canny_marks::auto_kernel_size(width, height))
 }
 
-// The sums of an accepted frame whose planes are at the start of the scratch. The store gets the frame's planes. Of what the scratch
-// and the magnitudes then hold nothing is promised: any content is right.
-#[tactic(auto, unfolding(crate::specs::Sums::frame_sums))]
+// How a frame is scored: whether edges are on, the side k of the window around an edge, and whether a frame of the same size came before it
+// in the stretch, which it is compared with (RULES 6.5).
+#[derive(Clone, Copy)]
+pub struct FrameScoring {
+    pub edges: bool,
+    pub k: u32,
+    pub scored: bool,
+}
+
+// These sums of a scored frame, and none of another.
+fn sums_if(scored: bool, sums: Sums) -> Sums
+    ensures { result ≡ cond scored sums no_sums }
+{
+    if scored { sums } else { stream::no_sums() }
+}
+
+// The sums of a frame whose planes took the place of the first three in the store, with these sums: with the edge sum, if edges are on, and
+// none of a frame that is not scored. The store gets its edge plane too, if edges are on. Of what the scratch and the magnitudes then hold
+// nothing is promised: any content is right.
 pub fn frame_sums(
     store: &mut [u8],
     scratch: &mut [u8],
     mag: &mut [i32],
     w: usize,
     h: usize,
-    edges: bool,
-    k: u32,
-    scored: bool,
+    how: FrameScoring,
+    sums: Sums,
 ) -> Sums
-    requires w_bound { (w ≤ 4096) × (h ≤ 4096) }
-    requires h_in_bounds { w * h + (w * h + (w * h + w * h)) ≤ length store.old }
-    requires h_in_bounds_2 { w * h + (w * h + (w * h + w * h)) ≤ length scratch.old }
-    requires h_in_bounds_3 { w * h ≤ length mag.old }
-    ensures value { result ≡ frame_sums edges scored k w h (planes_in (w * h) scratch.old) store.old }
-    ensures store_after { store.new ≡ store_after edges k w h (planes_in (w * h) scratch.old) store.old }
+    requires sides { (w ≤ 4096) × (h ≤ 4096) }
+    requires store_room { w * h + (w * h + (w * h + w * h)) ≤ length store.old }
+    requires scratch_room { w * h ≤ length scratch.old }
+    requires mag_room { w * h ≤ length mag.old }
+    ensures value { result ≡ cond how.scored (cond how.edges (with_edge_sum sums (sum_abs_diff (edge_plane (luma_part (w * h) store.old) w h how.k) (edge_part (w * h) store.old))) sums) no_sums }
+    ensures store_after { store.new ≡ cond how.edges (with_edge_plane (w * h) (edge_plane (luma_part (w * h) store.old) w h how.k) store.old) store.old }
 {
-    let n = w * h;
-    let e = 3 * n;
-    let f = 4 * n;
-    let s = Pair { scratch, store, n }.sums_if(scored);
-    store[..e].copy_from_slice(&scratch[..e]);
-    if edges {
-        fill_edges(scratch, store, mag, w, h, k);
-        let edge_sum = Pair { scratch, store, n }.edge_sum_if(scored);
-        store[e..f].copy_from_slice(&scratch[e..f]);
-        Sums {
-            edges: edge_sum,
-            ..s
-        }
+    if how.edges {
+        let edges = replace_edges(store, scratch, mag, w, h, how.k);
+        sums_if(how.scored, Sums { edges, ..sums })
     } else {
-        s
+        sums_if(how.scored, sums)
     }
 }

@@ -4,4 +4,4 @@ use Rattle.arch_planes.proofs.mean_abs_diff.Goals as goal
 
 pub returns : goal.returns
 unfolding mean_abs_diff
-returns c = rw (c.mean_of.ensures, c.sum_abs_diff-sum.ensures)
+returns c = rw (c.mean_of.ensures, c.sum_abs_diff-sum.ensures.value)

@@ -1,32 +1,38 @@
--- `arch_planes::sum_abs_diff` meets its contract: the pairs of a and b, place by place, and the sum of their differences.
-use Rattle.std.proofs.Common.{◌≡◌, ℕ, zero, suc, ◌+◌, List, [], ◌∷◌, length, get_or, refl, ◌∙◌, arith, rules}
-use Rattle.std.specs.List.{sum_by, zip}
-use Rattle.std.proofs.lemmas.Iterator.{YieldsList-from_slice, YieldsList-from_zip, YieldsList-from_map}
-use Rattle.std.proofs.lemmas.Iterator.Consumers.{YieldsList-at, sum_by_from_yields_List}
-use Rattle.std.proofs.lemmas.List.Sums.{sum_by-cons}
-use Rattle.laws.specs.Lists.{sum}
-use Rattle.arch_planes.specs.Difference.{dist, sum_abs_diff}
+-- `arch_planes::sum_abs_diff` meets its contract, block by block.
+use mathlib.Core.Path.{◌≡◌, ap, ◌∙◌}
+use native.Mathlib.Omega.{arith}
+use Prim.Native.Nat.{ℕ, ◌+◌, ◌-◌, ◌*◌, ◌/◌}
+use lib.ListN.{length}
+use Rattle.laws.proofs.Parts.{length_part}
+use Rattle.laws.proofs.Planes.{width}
+use Rattle.arch_planes.proofs.Totals.{below_none, below_more, below_all}
 use Rattle.arch_planes.proofs.sum_abs_diff.Goals as goal
 
-sum_front : (n : ℕ) (f : ℕ → ℕ) → sum (suc n) f ≡ f 0 + sum n (λ i. f (suc i))
-unfolding sum
-sum_front zero f = omega arith
-sum_front (suc n) f = omega (arith, sum_front n f)
+pub loop-i-init : goal.loop-i-init
+loop-i-init c = record { most = omega arith; summed = below_none c.args.a.now c.args.b.now }
 
--- by pairs and by places
-sum-zip : (s t : List ℕ) → length s ≡ length t → sum_by (λ (p : ℕ × ℕ). dist p.0 p.1) (zip s t) ≡ sum (length s) (λ i. dist (get_or s i 0) (get_or t i 0))
-unfolding sum
-sum-zip [] [] e = refl
-sum-zip [] (y ∷ t) e = absurd (omega arith)
-sum-zip (x ∷ s) [] e = absurd (omega arith)
-sum-zip (x ∷ s) (y ∷ t) e =
-    omega (arith, sum_by-cons (λ (p : ℕ × ℕ). dist p.0 p.1) (x, y) (zip s t), sum_front (length s) (λ i. dist (get_or (x ∷ s) i 0) (get_or (y ∷ t) i 0)), sum-zip s t (omega arith))
+pub loop-i-preserved : goal.loop-i-preserved
+loop-i-preserved c =
+    let at = 32 * c.loop-i.i in
+    let a = c.args.a.now in
+    let next : 32 * (c.loop-i.i + 1) ≡ at + 32 = omega arith in
+    let value = rw (width at 32) at c.block_sum-total.ensures.value in
+    let bound = rw (width at 32) at c.block_sum-total.ensures.bound in
+    let more = below_more a c.args.b.now at 32 c.block_sum-total.result (omega arith) value in
+    record {
+      most = omega (arith, bound, length_part at 32 a (omega arith));
+      summed = rw next (ap (λ (t : ℕ). t + c.block_sum-total.result) c.loop-i.invariant.summed ∙ more);
+    }
 
+-- and then what follows the last block
 pub returns : goal.returns
-unfolding sum_abs_diff
 returns c =
     let a = c.args.a.now in
     let b = c.args.b.now in
-    sum_by_from_yields_List (λ (p : ℕ × ℕ). dist p.0 p.1) (zip a b) c.map.result c.sum.result c.sum.ensures.ran
-    (YieldsList-from_map _ (λ (p : ℕ × ℕ). dist p.0 p.1) (YieldsList-at c.map.ensures.source (YieldsList-from_zip (YieldsList-from_slice a cc) (YieldsList-from_slice b c.zip.ensures.second.0))) c.map.ensures.closure (λ x r q k. search rules))
-    ∙ sum-zip a b c.requires.a_len
+    let at = length a / 32 * 32 in
+    let i : 32 * c.loop-i.i ≡ at = omega arith in
+    let end : at + (length a - at) ≡ length a = omega arith in
+    let value = rw (← c.requires.a_len) at c.block_sum.ensures.value in
+    let more = below_more a b at (length a - at) c.block_sum.result (omega arith) value in
+    let e = ap (λ (t : ℕ). t + c.block_sum.result) (rw i at c.loop-i.invariant.summed) ∙ more ∙ below_all a b (at + (length a - at)) end in
+    record { value = e; bound = omega (arith, length_part at (length a - at) a (omega arith)) }

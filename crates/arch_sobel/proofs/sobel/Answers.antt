@@ -6,7 +6,7 @@ pub loop-y-preserved : goal.loop-y-preserved
 loop-y-preserved c =
     let t = c.loop-y-test.true in
     let i = c.loop-y.invariant in
-    record { mag = rows_more i.mag t c.row.ensures.mag_after; dir = rows_more i.dir t c.row.ensures.dir_after }
+    record { mag = rows_more i.mag t c.magnitudes.ensures; dir = rows_more i.dir t c.direction_row.ensures }
 
 pub returns : goal.returns
 unfolding sobel_mag sobel_dir

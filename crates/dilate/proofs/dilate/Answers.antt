@@ -1,15 +1,9 @@
--- `dilate::dilate` meets its contract. First along the rows, then along the columns. Assumes nothing.
-use mathlib.Core.Path.{◌∙◌}
-use Rattle.dilate.proofs.Frames.{rows_apart, cols-apart, rows-cols}
+use Rattle.std.proofs.Common.{ℕ, arith}
+use Rattle.std.proofs.lemmas.List.{length-take, length-replicate}
+use Rattle.dilate.proofs.Frames.{over-square}
 use Rattle.dilate.proofs.dilate.Goals as goal
-
-pub dilate_lines-requires-clause-apart : goal.dilate_lines-requires-clause-apart
-dilate_lines-requires-clause-apart c = rows_apart c.args.w c.args.h _ c.requires.plane_len
-
-pub dilate_lines-requires-2-clause-apart : goal.dilate_lines-requires-2-clause-apart
-dilate_lines-requires-2-clause-apart c = cols-apart c.args.w c.args.h _ (c.dilate_lines.ensures.len ∙ c.requires.plane_len)
 
 pub returns : goal.returns
 returns c =
-    let a = c.args in
-    rows-cols a.plane.now _ _ a.w a.h a.k c.requires.plane_len c.dilate_lines.ensures c.dilate_lines-2.ensures
+    over-square _ c.dilate_rows.new.plane c.widen.new.plane c.widen-2.new.plane c.args.w c.args.h c.args.k _ (omega arith) (omega (arith, length-take {A = ℕ}, length-replicate {A = ℕ}))
+    c.dilate_rows.ensures (λ x v p q. c.widen.ensures.here x v p q (omega arith) q) (λ x v p q. c.widen-2.ensures.here x v p q (omega arith) q)
