@@ -1,20 +1,17 @@
 -- What the test `inner` says, and the two planes by it.
-use mathlib.Core.Path.{◌≡◌, refl, ap, ◌∙◌}
+use mathlib.Core.Path.{◌≡◌, refl}
 use mathlib.Core.Bool.{Bool, true, false, ◌&&◌}
 use mathlib.Core.List.{List}
-use Prim.Native.Nat.{ℕ, ◌+◌, ◌-◌, ◌*◌, ◌<◌, ◌≤◌}
+use Prim.Native.Nat.{ℕ, ◌+◌, ◌*◌, ◌<◌, ◌≤◌}
 use native.Mathlib.Omega.{arith}
 use lib.Dec.{ltb}
 use lib.IntN.{ℤ, pos, nat_abs}
-use lib.ListN.{length, replicate, get_or}
-use borrow.Rule.Slice.PartMut.{put_mid}
-use Rattle.std.proofs.lemmas.List.{length-replicate, get_or-replicate}
+use lib.ListN.{replicate}
 use borrow.Author.Tests.{ltb-true, lt-ltb, le-ltb}
 use Rattle.laws.specs.Lists.{tabulate}
 use Rattle.laws.proofs.Bools.{and-true}
 use Rattle.laws.proofs.Grid.{row-end}
-use Rattle.laws.proofs.Parts.{filled-part}
-use Rattle.laws.proofs.Tab.{length-tabulate, get_d_tabulate, is-tabulate, Filled}
+use Rattle.laws.proofs.Tab.{cleared}
 use Rattle.arch_sobel.specs.Inner.{Inner}
 use Rattle.arch_sobel.specs.Sobel.{inner, grad_x, grad_y, dir_of, mag_at, dir_at}
 
@@ -79,20 +76,6 @@ module _ (s : List ℕ) (w h x y : ℕ) where
   pub at-border : inner w h x y ≡ false → (pos 0 ≡ mag_at s w h x y) × (0 ≡ dir_at s w h x y)
   unfolding mag_at dir_at
   at-border e = (simp e, simp e)
-
--- a row that is filled up to x, and a part of it that is written from there to e
-pub part-filled : {A : Type 0} {d : A} {f : ℕ → A} {n x e i k : ℕ} {l m : List A} → Filled d f n x l → x ≤ e → e ≤ n → k ≡ e - x → i ≡ e
-    → m ≡ tabulate k (λ j. f (x + j)) → Filled d f n i (put_mid x (e - x) l m)
-part-filled {A} {d} {f} {n} {x} {e} {i} {k} {l} {m} F a b q z p =
-    let end : x + (e - x) ≡ i = omega (arith, z) in
-    let r = rw q at p in
-    rw end at (filled-part (e - x) m F (omega arith) (ap length r ∙ length-tabulate (e - x) _) (λ j h. ap (λ (t : List A). get_or t j d) r ∙ get_d_tabulate (e - x) _ d j h))
-
--- a row that is cleared, and is at the border or too short to have an inner place
-pub cleared : {A : Type 0} (d : A) (w n : ℕ) (f : ℕ → A) (l : List A) → n ≡ w → ((x : ℕ) → x < w → d ≡ f x) → l ≡ replicate n d → l ≡ tabulate w f
-cleared d w n f l en z e =
-    is-tabulate d l w f (ap length e ∙ length-replicate n d ∙ en)
-    (λ i h. let b : i < n = omega (arith, en) in rw e (get_or-replicate n i d d b ∙ z i h))
 
 pub not-inner : (w h x y : ℕ) → (0 < y → y + 1 < h → 1 < w → ⊥) → inner w h x y ≡ false
 not-inner w h x y o = go (inner w h x y) refl

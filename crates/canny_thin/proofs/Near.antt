@@ -16,7 +16,8 @@ use Rattle.laws.proofs.InPlace.{row_before}
 use Rattle.laws.proofs.Planes.{get_d-plane}
 use Rattle.laws.proofs.Tab.{length-tabulate, get_d_tabulate, is-tabulate}
 use Rattle.arch_sobel.specs.Sobel.{inner, dir_at, sobel_dir}
-use Rattle.arch_sobel.proofs.Inner.{Within, cleared, not-inner}
+use Rattle.arch_sobel.proofs.Inner.{Within, not-inner}
+use Rattle.laws.proofs.Tab.{cleared}
 use Rattle.canny_thin.specs.Blocks.{class_in}
 use Rattle.canny_thin.specs.Step.{step_of, stays_by, stays_along}
 use Rattle.canny_thin.specs.Thin.{ahead, behind, stays, class_of, class_at, thinned, magnitude}

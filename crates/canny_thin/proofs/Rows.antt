@@ -10,12 +10,13 @@ use lib.ListN.{length, take, drop, get_or, replicate, length-replicate, get_or-r
 use borrow.Author.Tests.{eq-eqb, ne_eqb}
 use borrow.Rule.Slice.PartMut.{put_mid}
 use Rattle.laws.specs.Lists.{tabulate, plane}
-use Rattle.laws.proofs.Grid.{row-end, row-mono}
-use Rattle.laws.proofs.Parts.{put-before, put_in, put-after, put-length, get_d_part, length_part}
-use Rattle.laws.proofs.Planes.{width, is-plane, get_d-plane}
+use Rattle.laws.proofs.Grid.{row-end}
+use Rattle.laws.proofs.Parts.{put-after, put-length, get_d_part, length_part}
+use Rattle.laws.proofs.Planes.{width, row_put, other_put, is-plane, get_d-plane}
 use Rattle.laws.proofs.Tab.{length-tabulate, get_d_tabulate, is-tabulate, Filled}
 use Rattle.arch_sobel.specs.Sobel.{inner, mag_at, dir_at, sobel_mag}
-use Rattle.arch_sobel.proofs.Inner.{Within, within, part-filled}
+use Rattle.arch_sobel.proofs.Inner.{Within, within}
+use Rattle.laws.proofs.Parts.{part-filled}
 use Rattle.canny_thin.specs.Blocks.{class_in, mag_or, with_row}
 use Rattle.canny_thin.specs.Thin.{ahead, behind, class_at, magnitude}
 use Rattle.canny_thin.proofs.Near.{class-border}
@@ -30,25 +31,18 @@ pub row-put : (luma : List ℕ) (mag m : List ℤ) (w h n : ℕ) → length mag 
     → put_mid (n * w) (n * w + w - n * w) mag m ≡ with_row luma mag w h n
 unfolding with_row
 row-put luma mag m w h n l b e =
-    rw (width (n * w) w)
-    (is-plane (pos 0) w h (mag_or luma mag w h n) _ (put-length (n * w) w mag m (pos 0) inside size ∙ l) (λ x y p q. at x y p (dec_lt y n) (dec_lt n y)))
+    is-plane (pos 0) w h (mag_or luma mag w h n) _ same (λ x y p q. at x y p (ℕ_discrete y n))
   where
-    inside : n * w + w ≤ length mag
-    inside = omega (arith, row-end n w h b)
-
     size : length m ≡ w
     size = ap length e ∙ length-tabulate w _
 
-    at : (x y : ℕ) → x < w → Dec (y < n) → Dec (n < y)
-        → get_or (put_mid (n * w) w mag m) (y * w + x) (pos 0) ≡ mag_or luma mag w h n x y
-    at x y p (yes q) r =
-        rw (ne_eqb y n (λ e. omega arith)) (put-before (n * w) w mag m (pos 0) inside size (y * w + x) (omega (arith, row-mono (y + 1) n w (omega arith))))
-    at x y p (no q) (yes r) =
-        rw (ne_eqb y n (λ e. omega arith)) (put-after (n * w) w mag m (pos 0) inside size (y * w + x) (omega (arith, row-mono (n + 1) y w (omega arith))))
-    at x y p (no q) (no r) =
-        let s : y ≡ n = omega (arith, q, r) in
-        rw (eq-eqb y n s, s)
-        (put_in (n * w) w mag m (pos 0) inside size x p ∙ ap (λ (t : List ℤ). get_or t x (pos 0)) e ∙ get_d_tabulate w _ (pos 0) x p)
+    same : length (put_mid (n * w) (n * w + w - n * w) mag m) ≡ w * h
+    same = rw (width (n * w) w) (put-length (n * w) w mag m (pos 0) (omega (arith, row-end n w h b)) size ∙ l)
+
+    at : (x y : ℕ) → x < w → Dec (y ≡ n) → get_or (put_mid (n * w) (n * w + w - n * w) mag m) (y * w + x) (pos 0) ≡ mag_or luma mag w h n x y
+    at x y p (yes s) =
+        rw (eq-eqb y n s, s) (row_put (pos 0) mag m w h n l size b x p ∙ ap (λ (t : List ℤ). get_or t x (pos 0)) e ∙ get_d_tabulate w _ (pos 0) x p)
+    at x y p (no s) = rw (ne_eqb y n s) (other_put (pos 0) mag m w h n l size b x y p s)
 
 -- the rows above n are the luma's magnitudes. A record, so that luma is found from a hypothesis
 pub record Ready (luma : List ℕ) (w h n : ℕ) (mag : List ℤ) : Type 0 where

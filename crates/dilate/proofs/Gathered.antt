@@ -11,7 +11,7 @@ use Rattle.laws.proofs.Max.{max_none, max-first, max-last}
 use Rattle.laws.proofs.Parts.{put-length}
 use Rattle.dilate.specs.declared.Columns.{Columns}
 use Rattle.dilate.specs.Places.{row_at, along, Rewritten}
-use Rattle.dilate.proofs.Rows.{row-length}
+use Rattle.laws.proofs.Planes.{row-part}
 use Rattle.dilate.proofs.Places.{row-inside, place-part, place-put, rewritten-none, then-before, then-after}
 
 -- the places from v to end are done, and b has the largest of them
@@ -116,7 +116,7 @@ reached-more {c} {start} {v} {l₀} {l} {b} a m row R taken high first size same
 }
   where
     part : length (take (a + c.w - a) (drop a l)) ≡ c.w
-    part = rw first (row-length l c.w c.h (row_at c.order c.h v) size (row-inside c.order c.h v high))
+    part = rw first (row-part (row_at c.order c.h v) c.w c.h l (row-inside c.order c.h v high) size)
 
     raised-at : (x : ℕ) → x < c.w → get_or row x 0 ≡ max (along c l₀ x v) (reached c start l₀ x v)
     raised-at x h = omega (arith, raised x (omega (arith, part)), taken x h, place-part c l row v a first x h, R.done.rest x v h high (λ p q. absurd (omega arith)))

@@ -3,7 +3,6 @@ pub mod Window
 pub mod Samples
 pub mod Around
 pub mod Halves
-pub mod Rows
 pub mod Places
 pub mod Gathered
 pub mod RowsDilated

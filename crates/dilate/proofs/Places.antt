@@ -10,7 +10,7 @@ use Rattle.dilate.specs.declared.RowOrder.{RowOrder}
 use Rattle.dilate.specs.declared.RowOrder.TheVariants.{Down, Up}
 use Rattle.dilate.specs.declared.Columns.{Columns}
 use Rattle.dilate.specs.Places.{row_at, along, Rewritten}
-use Rattle.dilate.proofs.Rows.{row-part, row_put, other_put}
+use Rattle.laws.proofs.Planes.{row-place, row_put, other_put}
 
 pub row-inside : (y : RowOrder) (h v : ℕ) → v < h → row_at y h v < h
 row-inside Down h v b = b
@@ -23,14 +23,14 @@ same_row Up h u v a b e = omega arith
 -- the row at place v starts at a: what its part has, and the plane where it becomes m
 module _ (c : Columns) (l m : List ℕ) (v a : ℕ) (start : a ≡ row_at c.order c.h v * c.w) where
   pub place-part : (x : ℕ) → x < c.w → get_or (take (a + c.w - a) (drop a l)) x 0 ≡ along c l x v
-  place-part x h = rw start (row-part l (row_at c.order c.h v) c.w x h)
+  place-part x h = rw start (row-place 0 (row_at c.order c.h v) c.w x l h)
 
   pub place-put : (next : ℕ) → next ≡ v + 1 → length l ≡ c.w * c.h → length m ≡ c.w → v < c.h → Rewritten c v next (λ x _. get_or m x 0) l (put_mid a (a + c.w - a) l m)
   place-put next after size long h = record {
-    here = λ x u b d p q. let e : u ≡ v = omega arith in rw (e, start) (row_put l m c.w c.h (row_at c.order c.h v) size long (row-inside c.order c.h v h) x b);
+    here = λ x u b d p q. let e : u ≡ v = omega arith in rw (e, start) (row_put 0 l m c.w c.h (row_at c.order c.h v) size long (row-inside c.order c.h v h) x b);
     rest = λ x u b d n.
         rw start
-        (other_put l m c.w c.h (row_at c.order c.h v) size long (row-inside c.order c.h v h) x (row_at c.order c.h u) b
+        (other_put 0 l m c.w c.h (row_at c.order c.h v) size long (row-inside c.order c.h v h) x (row_at c.order c.h u) b
         (λ e. let s : u ≡ v = same_row c.order c.h u v d h e in n (omega arith) (omega arith)));
   }
 

@@ -31,7 +31,3 @@ place i w = div-add-mod' i w
 -- a row further up ends earlier
 pub row-mono : (y z w : ℕ) → y ≤ z → y * w ≤ z * w
 row-mono y z w h = mul-le-mul_right w h
-
--- a row's number is at most its first place
-pub row_small : (y w : ℕ) → 0 < w → y ≤ y * w
-row_small y w h = let m : 1 * y ≤ w * y = mul-le-mul_right y h in omega arith

@@ -1,13 +1,12 @@
 -- A list that a loop rewrites in place: each element becomes f of its place and of what stood there.
 use Rattle.laws.specs.Lists.{tabulate, plane}
 use mathlib.Core.Path.{◌≡◌, refl, sym, ap, ◌∙◌}
-use mathlib.Core.List.{List, [], ◌∷◌, map}
+use mathlib.Core.List.{List}
 use Prim.Native.Nat.{ℕ, zero, suc, ◌+◌, ◌-◌, ◌*◌, ◌/◌, ◌%◌, ◌≤◌, ◌<◌}
-use native.Mathlib.Nat.{le_refl, mul-le-mul_right}
+use native.Mathlib.Nat.{mul-le-mul_right}
 use native.Mathlib.Omega.{arith}
-use native.Mathlib.Decide.{ℕ_discrete, dec_lt}
-use lib.ListN.{length, take, drop, get_or, set, length-set, length-map}
-use lib.Seq.{get_or-set_same, get_or-set_other, ext_get_or}
+use native.Mathlib.Decide.{dec_lt}
+use lib.ListN.{length, take, drop, get_or}
 use borrow.Rule.Slice.PartMut.{put_mid}
 use Rattle.laws.proofs.Tab.{is-tabulate, length-tabulate, get_d_tabulate}
 use Rattle.laws.proofs.Parts.{put-before, put_in, put-after, put-length, get_d_part}
@@ -27,18 +26,6 @@ pub record Mapped {A : Type 0} (d : A) (f : ℕ → A → A) (l₀ : List A) (i 
 
 pub mapped-none : {A : Type 0} {d : A} {f : ℕ → A → A} {l₀ : List A} {i : ℕ} → i ≡ 0 → Mapped d f l₀ i l₀
 mapped-none e = record { len = refl; done = λ k h. absurd (omega arith); rest = λ k h. refl }
-
-pub mapped-more : {A : Type 0} {d : A} {f : ℕ → A → A} {l₀ l : List A} {i : ℕ} (v : A) → Mapped d f l₀ i l → i < length l₀ → v ≡ f i (get_or l i d)
-    → Mapped d f l₀ (i + 1) (set l i v)
-mapped-more {A} {d} {f} {l₀} {l} {i} v M h e = record {
-  len = length-set l i v ∙ M.len;
-  done = λ k b. step k b (ℕ_discrete k i);
-  rest = λ k b. get_or-set_other l i k v d (λ p. absurd (omega arith)) ∙ M.rest k (omega arith);
-}
-  where
-    step : (k : ℕ) → k < i + 1 → Dec (k ≡ i) → get_or (set l i v) k d ≡ f k (get_or l₀ k d)
-    step k b (yes p) = rw p (get_or-set_same l i v d (omega (arith, M.len)) ∙ e ∙ ap (f i) (M.rest i (le_refl i)))
-    step k b (no p) = get_or-set_other l i k v d p ∙ M.done k (omega (arith, p))
 
 -- a part of n elements rewritten by another function that is f there
 pub mapped-part : {A : Type 0} {d : A} {f : ℕ → A → A} {l₀ l : List A} {a : ℕ} (n : ℕ) (g : ℕ → A → A) (m : List A) → Mapped d f l₀ a l → a + n ≤ length l₀
@@ -95,16 +82,3 @@ pub mapped-rows-all : {A : Type 0} {d : A} {g : ℕ → ℕ → A → A} {w h y 
 mapped-rows-all {A} {d} {g} {w} {h} {y} {l₀} {l} R b =
     is-tabulate d l (w * h) (λ k. g (k % w) (k / w) (get_or l₀ (k / w * w + k % w) d)) (R.mapped.len ∙ R.size)
     (λ k h. R.mapped.done k (omega (arith, mul-le-mul_right w b)) ∙ ap (λ (n : ℕ). g (k % w) (k / w) (get_or l₀ n d)) (sym (place k w)))
-
--- a rewriting by the element alone is a map
-pub mapped-map : {A : Type 0} {d : A} {f : ℕ → A → A} {l₀ l : List A} {i : ℕ} (g : A → A) → Mapped d f l₀ i l → length l₀ ≤ i
-    → ((k : ℕ) → f k ≡ g) → l ≡ map g l₀
-mapped-map {A} {d} {f} {l₀} {l} {i} g M h same =
-    ext_get_or d l (map g l₀) (M.len ∙ sym (length-map l₀ g))
-    (λ k b.
-    M.done k (omega (arith, M.len)) ∙ ap (λ (u : A → A). u (get_or l₀ k d)) (same k) ∙ sym (get_d-map-in g l₀ k d (omega (arith, M.len))))
-  where
-    get_d-map-in : (g : A → A) (l : List A) (k : ℕ) (d : A) → k < length l → get_or (map g l) k d ≡ g (get_or l k d)
-    get_d-map-in g [] k d h = absurd (omega arith)
-    get_d-map-in g (a ∷ l) zero d h = refl
-    get_d-map-in g (a ∷ l) (suc k) d h = get_d-map-in g l k d (omega arith)

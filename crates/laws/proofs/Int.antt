@@ -1,12 +1,12 @@
 -- i32 arithmetic by one bound in ℕ: the size of an integer, `nat_abs`. Code computes at `to_z w32 (of_z w32 z)`, which is z where the size is below 2 ^ 31.
-use mathlib.Core.Path.{◌≡◌, refl, ap}
+use mathlib.Core.Path.{◌≡◌, refl}
 use mathlib.Core.Bool.{Bool, true, false, cond}
 use Prim.Native.Nat.{ℕ, zero, suc, ◌+◌, ◌-◌, ◌^◌, ◌≤◌, ◌<◌}
 use native.Mathlib.Nat.{le_refl, le-suc}
 use native.Mathlib.Omega.{arith}
-use lib.Dec.{ltb, T}
+use lib.Dec.{ltb}
 use lib.IntN.{ℤ, pos, negsuc, nat_abs, ◌-ℤ◌}
-use lib.Signed.{mag, lt_z, non_neg}
+use lib.Signed.{mag}
 use borrow.Author.Tests.{ltb-true, ltb-false}
 use mir.Syntax.{w32}
 use mir.Val.{SFits, to_z, of_z}
@@ -35,27 +35,3 @@ abs-sub a b false e = omega (arith, ltb-false a b e)
 pub abs-minus : (a b : ℕ) → nat_abs (pos a -ℤ pos b) ≡ (a - b) + (b - a)
 abs-minus a zero = omega arith
 abs-minus a (suc b) = abs-sub a (suc b) (ltb a (suc b)) refl
-
--- what an integer is by the test `g < 0`
-pub below-zero : (g : ℤ) → lt_z g (pos 0) ≡ true → (n : ℕ) × (g ≡ negsuc n)
-below-zero (pos n) e = absurd (omega (arith, ltb-true n 0 e))
-below-zero (negsuc n) e = (n, refl)
-
-pub not-below-zero : (g : ℤ) → lt_z g (pos 0) ≡ false → g ≡ pos (nat_abs g)
-not-below-zero (pos n) e = refl
-not-below-zero (negsuc n) e = absurd (true-is-false e)
-  where
-    true-is-false : true ≡ false → ⊥
-    true-is-false p = let z : ◌≡◌ {A = ℕ} 0 1 = ap (λ (t : Bool). cond t 0 1) p in omega arith
-
--- the size of a negation, and its sign where g is below zero
-pub abs_neg : (g : ℤ) → nat_abs (pos 0 -ℤ g) ≡ nat_abs g
-abs_neg (pos n) = omega (arith, abs-minus 0 n)
-abs_neg (negsuc n) = omega arith
-
-pub neg-non_neg : (g : ℤ) → lt_z g (pos 0) ≡ true → T (non_neg (pos 0 -ℤ g))
-neg-non_neg (pos n) e = absurd (omega (arith, ltb-true n 0 e))
-neg-non_neg (negsuc n) e = tt
-
-pub non_neg-of : (g : ℤ) → lt_z g (pos 0) ≡ false → T (non_neg g)
-non_neg-of g e = rw (not-below-zero g e) tt

@@ -1,9 +1,9 @@
 -- Lists made of parts, one after the other: what a part reads, and what writing a part leaves. A part that lies past x is a part of
 -- what follows x.
-use mathlib.Core.Path.{◌≡◌, sym}
+use mathlib.Core.Path.{◌≡◌}
 use mathlib.Core.List.{List, ◌++◌, append_assoc}
 use Prim.Native.Nat.{ℕ, ◌+◌}
-use lib.ListN.{length, take, drop, take-append-drop}
+use lib.ListN.{length, take, drop}
 use lib.Seq.{take_at, drop_at, take-append-add, drop-append-add}
 use borrow.Rule.Slice.PartMut.{put_mid}
 
@@ -25,13 +25,6 @@ module _ {A : Type 0} (x l : List A) where
 
   pub skip-put : (m a k : ℕ) (v : List A) → length x ≡ m → put_mid (m + a) k (x ++ l) v ≡ x ++ put_mid a k l v
   skip-put m a k v e = rw (take_past m a e, drop_past m a e) (append_assoc x (take a l) (v ++ drop k (drop a l)))
-
-  pub first-put : (k : ℕ) (v : List A) → length x ≡ k → put_mid 0 k (x ++ l) v ≡ v ++ l
-  first-put k v e = rw (drop_at x l k e)
-
--- a list is its first k elements and what follows them
-pub split : {A : Type 0} (k : ℕ) (l : List A) → l ≡ take k l ++ drop k l
-split k l = sym (take-append-drop k l)
 
 -- a part that follows x at once
 pub next-put : {A : Type 0} (x l : List A) (m k : ℕ) (v : List A) → length x ≡ m → put_mid m k (x ++ l) v ≡ x ++ (v ++ drop k l)

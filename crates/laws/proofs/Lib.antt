@@ -7,10 +7,8 @@ pub mod Planes
 pub mod Sums
 pub mod Products
 pub mod Max
-pub mod Blocks
 pub mod Int
 pub mod Whole
-pub mod Signed
 pub mod Times
 pub mod Thirds
 pub mod FloatTests

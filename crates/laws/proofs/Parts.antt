@@ -8,7 +8,7 @@ use lib.ListN.{length, take, drop, get_or, length-drop, get_or-append}
 use lib.Seq.{get_or-take, get_or-drop, get_or-append-add, length-take-le}
 use borrow.Rule.Slice.PartMut.{put_mid, same_len_mid}
 use Rattle.laws.specs.Lists.{tabulate}
-use Rattle.laws.proofs.Tab.{is-tabulate, Filled}
+use Rattle.laws.proofs.Tab.{length-tabulate, get_d_tabulate, is-tabulate, Filled}
 
 -- the part `&s[a..e]` of a list has, at j, what the list has at a + j
 pub get_d_part : {A : Type 0} (a k : ℕ) (xs : List A) (j : ℕ) (d : A) → j < k → get_or (take k (drop a xs)) j d ≡ get_or xs (a + j) d
@@ -61,6 +61,10 @@ filled-part {A} {d} {f} {n} {a} {l} k m F inside same part = record {
         let e : i ≡ a + (i - a) = omega (arith, h) in
         rw e (put_in a k l m d (omega (arith, F.len)) same (i - a) (omega (arith, h)) ∙ part (i - a) (omega (arith, h)))
 
--- the part `&s[a..e]` has e - a elements
-pub length-from-to : {A : Type 0} (n a e : ℕ) (l : List A) → e ≤ length l → a + n ≡ e → length (take (e - a) (drop a l)) ≡ n
-length-from-to n a e l h p = let k : e - a ≡ n = omega arith in rw k (length_part a n l (omega arith))
+-- the same of a part that is given as its definition, from x to e
+pub part-filled : {A : Type 0} {d : A} {f : ℕ → A} {n x e i k : ℕ} {l m : List A} → Filled d f n x l → x ≤ e → e ≤ n → k ≡ e - x → i ≡ e
+    → m ≡ tabulate k (λ j. f (x + j)) → Filled d f n i (put_mid x (e - x) l m)
+part-filled {A} {d} {f} {n} {x} {e} {i} {k} {l} {m} F a b q z p =
+    let end : x + (e - x) ≡ i = omega (arith, z) in
+    let r = rw q at p in
+    rw end at (filled-part (e - x) m F (omega arith) (ap length r ∙ length-tabulate (e - x) _) (λ j h. ap (λ (t : List A). get_or t j d) r ∙ get_d_tabulate (e - x) _ d j h))

@@ -4,12 +4,13 @@ use mathlib.Core.Path.{◌≡◌, sym, ap, ◌∙◌}
 use mathlib.Core.List.{List}
 use Prim.Native.Nat.{ℕ, ◌+◌, ◌-◌, ◌*◌, ◌/◌, ◌%◌, ◌≤◌, ◌<◌}
 use native.Mathlib.Nat.{mul-le-mul_right}
+use native.Mathlib.Decide.{dec_lt}
 use native.Mathlib.Omega.{arith}
 use lib.ListN.{length, take, drop, get_or}
 use borrow.Rule.Slice.PartMut.{put_mid}
 use Rattle.laws.proofs.Tab.{is-tabulate, length-tabulate, get_d_tabulate, Filled, filled-from, filled-all}
-use Rattle.laws.proofs.Parts.{filled-part, length_part}
-use Rattle.laws.proofs.Grid.{row-end, row_of, col-of, row_lt, col-lt, place}
+use Rattle.laws.proofs.Parts.{filled-part, length_part, get_d_part, put-before, put_in, put-after}
+use Rattle.laws.proofs.Grid.{row-end, row-mono, row_of, col-of, row_lt, col-lt, place}
 
 pub width : (a w : ℕ) → a + w - a ≡ w
 width a w = omega arith
@@ -37,6 +38,27 @@ rows_all {A} {d} {f} {w} {h} {y} {l} R b = filled-all R.filled (omega (arith, mu
 -- the part of row y
 pub row-part : {A : Type 0} (y w h : ℕ) (l : List A) → y < h → length l ≡ w * h → length (take (y * w + w - y * w) (drop (y * w) l)) ≡ w
 row-part y w h l b e = rw (width (y * w) w) (length_part (y * w) w l (omega (arith, row-end y w h b)))
+
+-- what it has at column x
+pub row-place : {A : Type 0} (d : A) (y w x : ℕ) (l : List A) → x < w → get_or (take (y * w + w - y * w) (drop (y * w) l)) x d ≡ get_or l (y * w + x) d
+row-place d y w x l h = get_d_part (y * w) (y * w + w - y * w) l x d (omega arith)
+
+-- once m is written to row r: that row, and any other
+module _ {A : Type 0} (d : A) (l m : List A) (w h r : ℕ) (size : length l ≡ w * h) (long : length m ≡ w) (inside : r < h) where
+  fits : r * w + (r * w + w - r * w) ≤ length l
+  fits = omega (arith, width (r * w) w, row-end r w h inside)
+
+  pub row_put : (x : ℕ) → x < w → get_or (put_mid (r * w) (r * w + w - r * w) l m) (r * w + x) d ≡ get_or m x d
+  row_put x b = put_in (r * w) (r * w + w - r * w) l m d fits (omega arith) x (omega arith)
+
+  pub other_put : (x y : ℕ) → x < w → (y ≡ r → ⊥) → get_or (put_mid (r * w) (r * w + w - r * w) l m) (y * w + x) d ≡ get_or l (y * w + x) d
+  other_put x y b ne = go (dec_lt y r)
+    where
+      go : Dec (y < r) → get_or (put_mid (r * w) (r * w + w - r * w) l m) (y * w + x) d ≡ get_or l (y * w + x) d
+      go (yes q) = put-before (r * w) (r * w + w - r * w) l m d fits (omega arith) (y * w + x) (let up : y + 1 ≤ r = omega arith in omega (arith, row-mono (y + 1) r w up))
+      go (no q) =
+          let up : r + 1 ≤ y = (let k : y ≡ r → ⊥ = ne in omega (arith, q)) in
+          put-after (r * w) (r * w + w - r * w) l m d fits (omega arith) (y * w + x) (omega (arith, width (r * w) w, row-mono (r + 1) y w up))
 
 -- a list of w * h elements with f x y at column x of each row y is that plane, and the plane has that there
 pub is-plane : {A : Type 0} (d : A) (w h : ℕ) (f : ℕ → ℕ → A) (l : List A) → length l ≡ w * h

@@ -1,12 +1,12 @@
 -- A list given by index, and the laws that relate it to stores and to parts.
 use Rattle.laws.specs.Lists.{tabulate}
 use mathlib.Core.Path.{◌≡◌, refl, sym, ap, ◌∙◌}
-use mathlib.Core.List.{List, ◌++◌}
+use mathlib.Core.List.{List}
 use Prim.Native.Nat.{ℕ, zero, suc, ◌+◌, ◌≤◌, ◌<◌}
-use native.Mathlib.Nat.{le_of_suc-le-suc, not-suc-le-zero, zero-add, suc-add}
+use native.Mathlib.Nat.{le_of_suc-le-suc, not-suc-le-zero}
 use native.Mathlib.Omega.{arith}
 use native.Mathlib.Decide.{ℕ_discrete}
-use lib.ListN.{length, get_or, set, length-set}
+use lib.ListN.{length, get_or, set, length-set, replicate, length-replicate, get_or-replicate}
 use lib.Seq.{ext_get_or, get_or-set_same, get_or-set_other}
 
 pub length-tabulate {ℓ} : {A : Type ℓ} (n : ℕ) (f : ℕ → A) → length (tabulate n f) ≡ n
@@ -50,29 +50,8 @@ filled_more {A} {d} {f} {n} {i} {l} v F h e = record {
 pub filled-all : {A : Type 0} {d : A} {f : ℕ → A} {n i : ℕ} {l : List A} → Filled d f n i l → n ≤ i → l ≡ tabulate n f
 filled-all {A} {d} {f} {n} {i} {l} F h = is-tabulate d l n f F.len (λ k b. F.done k (omega arith))
 
-pub filled-ext : {A : Type 0} {d : A} {n i : ℕ} {l s : List A} → Filled d (λ k. get_or s k d) n i l → length s ≡ n → n ≤ i → l ≡ s
-filled-ext {A} {d} {n} {i} {l} {s} F e h = ext_get_or d l s (F.len ∙ sym e) (λ k b. F.done k (omega (arith, F.len)))
-
--- the same for a loop that writes places n - 1, n - 2, .. down to i, of a list of len elements
-pub record FilledDown {A : Type 0} (d : A) (f : ℕ → A) (size n i : ℕ) (l : List A) : Type 0 where
-  pub len : length l ≡ size
-  pub done : (k : ℕ) → i ≤ k → k < n → get_or l k d ≡ f k
-
-pub down-none : {A : Type 0} (d : A) (f : ℕ → A) (size n : ℕ) (l : List A) → length l ≡ size → FilledDown d f size n n l
-down-none d f size n l e = record { len = e; done = λ k a b. absurd (omega arith) }
-
-pub down-more : {A : Type 0} {d : A} {f : ℕ → A} {size n i : ℕ} {l : List A} {j : ℕ} (v : A) → FilledDown d f size n i l → i ≡ j + 1 → j < size → v ≡ f j → FilledDown d f size n j (set l j v)
-down-more {A} {d} {f} {size} {n} {i} {l} {j} v F q h e = record {
-  len = length-set l j v ∙ F.len;
-  done = λ k a b. step k a b (ℕ_discrete k j);
-}
-  where
-    step : (k : ℕ) → j ≤ k → k < n → Dec (k ≡ j) → get_or (set l j v) k d ≡ f k
-    step k a b (yes p) = rw p (get_or-set_same l j v d (omega (arith, F.len)) ∙ e)
-    step k a b (no p) = get_or-set_other l j k v d p ∙ F.done k (omega (arith, p)) b
-
--- m elements and then n more
-pub tabulate-add : {A : Type 0} (m n : ℕ) (v : A) → tabulate (m + n) (λ _. v) ≡ tabulate m (λ _. v) ++ tabulate n (λ _. v)
-unfolding tabulate
-tabulate-add zero n v = rw (zero-add n)
-tabulate-add (suc m) n v = rw (suc-add m n, tabulate-add m n v)
+-- n equal elements, where f is that element throughout
+pub cleared : {A : Type 0} (d : A) (w n : ℕ) (f : ℕ → A) (l : List A) → n ≡ w → ((x : ℕ) → x < w → d ≡ f x) → l ≡ replicate n d → l ≡ tabulate w f
+cleared d w n f l en z e =
+    is-tabulate d l w f (ap length e ∙ length-replicate n d ∙ en)
+    (λ i h. let b : i < n = omega (arith, en) in rw e (get_or-replicate n i d d b ∙ z i h))

@@ -17,14 +17,6 @@ pub record Thirds {A : Type 0} (d : A) (f g e : ℕ → A) (n i : ℕ) (l : List
   pub second : (k : ℕ) → k < i → get_or l (n + k) d ≡ g k
   pub third : (k : ℕ) → k < i → get_or l (n + (n + k)) d ≡ e k
 
-pub thirds-none : {A : Type 0} {d : A} {f g e : ℕ → A} {n i : ℕ} {l : List A} → length l ≡ 3 * n → i ≡ 0 → Thirds d f g e n i l
-thirds-none h z = record {
-  len = h;
-  first = λ k b. absurd (omega arith);
-  second = λ k b. absurd (omega arith);
-  third = λ k b. absurd (omega arith);
-}
-
 -- get_or of a list after a store
 get_d_set : {A : Type 0} (l : List A) (i k : ℕ) (v d : A) (t : A) → i < length l → (k ≡ i → v ≡ t) → ((k ≡ i → ⊥) → get_or l k d ≡ t) → get_or (set l i v) k d ≡ t
 get_d_set l i k v d t b same other = go (ℕ_discrete k i)

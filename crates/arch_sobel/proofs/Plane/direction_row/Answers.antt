@@ -3,7 +3,8 @@ use Prim.Native.Nat.{◌+◌, ◌-◌, ◌<◌}
 use native.Mathlib.Omega.{arith}
 use Rattle.laws.proofs.Tab.{filled_none, filled_more, filled-all}
 use Rattle.arch_sobel.specs.Sobel.{dir_at}
-use Rattle.arch_sobel.proofs.Inner.{at_left, at_right, at-border, border-dir, part-filled}
+use Rattle.arch_sobel.proofs.Inner.{at_left, at_right, at-border, border-dir}
+use Rattle.laws.proofs.Parts.{part-filled}
 use Rattle.arch_sobel.proofs.Plane.direction_row.Goals as goal
 use Rattle.arch_sobel.proofs.Plane.direction_row.Goals.{then-y-eq0-via-then-y-eq0, then-y-eq0-via-else-y-eq0+then-self-y, then-y-eq0-via-else-y-eq0+else-self-y+then-self-lt2}
 
