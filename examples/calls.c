@@ -144,7 +144,8 @@ static void words(const struct detector *d)
 }
 
 /* The settings: 0 are the defaults; 1 have a kernel and no initial cut, 2 the other way round. In 2 the size of the
- * kernel is not looked at. */
+ * kernel is not looked at. All of them count hue and saturation, since the film has colours. A film of luma frames
+ * wants MW_LUMA_CONTENT_SETTINGS or MW_LUMA_ADAPTIVE_SETTINGS, as in cut.c. */
 static void settle(struct detector *d, int settings)
 {
     uint32_t number;

@@ -1,7 +1,7 @@
-/* Uses the station library from C, with frames of one or two pixels: a film with the default settings, a BGR frame by a
- * call without struct mw_memory, an HSV frame, the readers, the two filter modes, the adaptive detector, calls that are
- * refused, and the list of a film's cuts. cut_c.stdout is what it must print, worked out by hand. It compiles as C99
- * and as C++17. */
+/* Uses the station library from C, with frames of one or two pixels: a film with the default settings, luma frames with
+ * the settings for them, a BGR frame by a call without struct mw_memory, an HSV frame, the readers, the two filter
+ * modes, the adaptive detector, calls that are refused, and the list of a film's cuts. cut_c.stdout is what it must
+ * print, worked out by hand. It compiles as C99 and as C++17. */
 #include "mawerodu.h"
 
 #include <stdio.h>
@@ -32,7 +32,8 @@ static void show(const char *name, const struct mw_answer *answer)
 }
 
 /* A film with the default settings: the second frame's score is 200 / 3. The third differs as much, but comes less than
- * a second after the cut. */
+ * a second after the cut. The frames are luma to show what the defaults do with them: a film of luma frames wants the
+ * settings that luma() has. */
 static int film(struct mw_content *state, struct mw_memory *memory)
 {
     static const struct frame frames[] = {{0, 0}, {400000, 200}, {900000, 0}, {2000000, 0}};
@@ -47,6 +48,25 @@ static int film(struct mw_content *state, struct mw_memory *memory)
             printf("%u,%u,-\n", i, (unsigned)number);
     }
     return mw_content_clear(state) == MW_OK;
+}
+
+/* A luma difference of 27, with the default settings and with those for luma frames: a score of 9, and of 27. The
+ * second reaches the threshold. */
+static int luma(struct mw_content *state, struct mw_memory *memory)
+{
+    static const uint8_t lumas[2] = {100, 127};
+
+    for (int luma_only = 0; luma_only < 2; luma_only++) {
+        uint32_t number = luma_only ? mw_content_new(state, MW_LUMA_CONTENT_SETTINGS) : mw_content_default(state);
+        for (int i = 0; i < 2; i++) {
+            if (number == MW_OK)
+                number = mw_content_feed_luma(state, memory, &lumas[i], 1, 1, 1, 1, i * 40000);
+            if (number != MW_OK)
+                return 0;
+            show("luma", &memory->answer);
+        }
+    }
+    return mw_content_default(state) == MW_OK;
 }
 
 /* Two black pixels, of which one turns red: hue 0, saturation and value 255. Each component is its sum over 2, and the
@@ -94,8 +114,8 @@ static int modes(struct mw_content *state, struct mw_memory *memory, struct mw_l
     static const char *const names[2] = {"merge", "suppress"};
 
     for (uint32_t mode = MW_MERGE; mode <= MW_SUPPRESS; mode++) {
-        if (mw_content_new(state, MW_DEFAULT_CONTENT_THRESHOLD, MW_DEFAULT_MIN_DURATION, MW_LUMA_WEIGHTS, mode,
-                           MW_DEFAULT_KERNEL, 1) != MW_OK)
+        if (mw_content_new(state, MW_LUMA_THRESHOLD, MW_DEFAULT_MIN_DURATION, MW_LUMA_WEIGHTS, mode, MW_DEFAULT_KERNEL,
+                           1) != MW_OK)
             return 0;
         mw_list_new(list, MW_DEFAULT_MIN_DURATION);
         printf("%s", names[mode]);
@@ -114,20 +134,20 @@ static int modes(struct mw_content *state, struct mw_memory *memory, struct mw_l
     return 1;
 }
 
-/* A window of three scores: 1, 30, 1. The ratio of the second is 30 / 1, and the frame with the third reports it. */
+/* The settings for luma frames, and a window of five scores: 1, 1, 30, 1, 1. The ratio of the third is 30 / 1, and the
+ * frame with the fifth reports it. */
 static int adaptive(void)
 {
-    static const uint8_t lumas[4] = {10, 11, 41, 42};
+    static const uint8_t lumas[6] = {10, 11, 12, 42, 43, 44};
     struct mw_adaptive state;
     struct mw_memory memory;
 
     if (mw_memory_init(&memory, 1, 1) != 0)
         return 0;
-    if (mw_adaptive_new(&state, MW_DEFAULT_ADAPTIVE_THRESHOLD, MW_DEFAULT_MIN_DURATION, 1, MW_DEFAULT_MIN_CONTENT_VAL,
-                        MW_LUMA_WEIGHTS, MW_DEFAULT_KERNEL, 1) != MW_OK)
+    if (mw_adaptive_new(&state, MW_LUMA_ADAPTIVE_SETTINGS) != MW_OK)
         return 0;
     printf("adaptive");
-    for (int i = 0; i < 4; i++) {
+    for (int i = 0; i < 6; i++) {
         int64_t cut;
         if (mw_adaptive_feed_luma(&state, &memory, &lumas[i], 1, 1, 1, 1, i * 40000) != MW_OK)
             return 0;
@@ -269,8 +289,8 @@ int main(void)
         fprintf(stderr, "out of memory\n");
         return 1;
     }
-    done = mw_content_default(&state) == MW_OK && film(&state, &memory) && bgr(&state) && hsv(&state, &memory) &&
-           modes(&state, &memory, &list, stamps) && adaptive() && refused_settings() &&
+    done = mw_content_default(&state) == MW_OK && film(&state, &memory) && luma(&state, &memory) && bgr(&state) &&
+           hsv(&state, &memory) && modes(&state, &memory, &list, stamps) && adaptive() && refused_settings() &&
            refused_frames(&state, &memory) && listed(&list, stamps);
     mw_memory_free(&memory);
     return done ? 0 : 1;

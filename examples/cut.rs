@@ -1,5 +1,6 @@
 // Cuts a film of four frames of one pixel, with the content detector's default settings: a cut at 400000. Then the state, the
-// settings and the refusals, the sums that a score comes from, the adaptive detector on a longer film, and a list of cuts.
+// settings and the refusals, what luma frames want, the sums that a score comes from, the adaptive detector on a longer
+// film, and a list of cuts.
 use mawerodu::{
     AdaptiveDetector, AdaptiveOptions, Components, ContentDetector, ContentOptions, CutList, FilterMode, Refusal, Sums,
 };
@@ -7,6 +8,7 @@ use mawerodu::{
 const FILM: [(i64, u8); 4] = [(0, 0), (400000, 200), (900000, 0), (2000000, 0)];
 
 fn main() -> Result<(), Refusal> {
+    // the default settings, to show what they do with luma frames: a film of luma frames wants those of luma_frames()
     let mut detector = ContentDetector::new();
     println!("frame,answer,cut");
     for (i, (ts, luma)) in FILM.iter().enumerate() {
@@ -43,6 +45,7 @@ fn main() -> Result<(), Refusal> {
         assert_eq!(detector.process_luma(&[10], 1, 1, 1, 0)?.score, None);
         assert_eq!(detector.process_luma(&[100], 1, 1, 1, 40000)?.score, Some(score));
     }
+    luma_frames()?;
 
     // two pixels: hue differs by 10 and 5, saturation by 0 and 3, value by 20 and 22, so the score is (7.5 + 1.5 + 21) / 3
     let mut detector = ContentDetector::new();
@@ -55,10 +58,10 @@ fn main() -> Result<(), Refusal> {
     let empty = detector.process_luma(&[], 0, 0, 0, 120000)?;
     assert_eq!((empty.score, empty.sums), (Some(0.0), Sums::default()));
 
-    let window = AdaptiveOptions { window_width: 1, ..AdaptiveOptions::default() };
+    let window = AdaptiveOptions { window_width: 1, ..AdaptiveOptions::luma_only() };
     let mut adaptive = AdaptiveDetector::with_options(window)?;
     let mut cuts = Vec::new();
-    for (i, luma) in [10u8, 11, 12, 212, 213, 214, 215].iter().enumerate() {
+    for (i, luma) in [10u8, 11, 12, 42, 43, 44, 45].iter().enumerate() {
         if let Some(cut) = adaptive.process_luma(&[*luma], 1, 1, 1, i as i64 * 40000)?.cut {
             cuts.push(cut);
         }
@@ -67,13 +70,34 @@ fn main() -> Result<(), Refusal> {
     list_of_cuts()
 }
 
+// With the settings for luma frames a luma difference of 27 is a cut (content), or one of 15 that stands out
+// (adaptive). One less is none. With the default settings it takes three times as much.
+fn luma_frames() -> Result<(), Refusal> {
+    let (plain, luma) = (ContentOptions::default(), ContentOptions::luma_only());
+    for (options, difference, cut) in
+        [(luma, 27, Some(40000)), (luma, 26, None), (plain, 81, Some(40000)), (plain, 80, None)]
+    {
+        let mut detector = ContentDetector::with_options(options)?;
+        detector.process_luma(&[100], 1, 1, 1, 0)?;
+        assert_eq!(detector.process_luma(&[100 + difference], 1, 1, 1, 40000)?.cut, cut);
+    }
+    let (plain, luma) = (AdaptiveOptions::default(), AdaptiveOptions::luma_only());
+    for (options, difference, cut) in
+        [(luma, 15, Some(120000)), (luma, 14, None), (plain, 45, Some(120000)), (plain, 44, None)]
+    {
+        let mut detector = AdaptiveDetector::with_options(options)?;
+        let mut last = None;
+        for (i, luma) in [100, 100, 100, 100 + difference, 100 + difference, 100 + difference].iter().enumerate() {
+            last = detector.process_luma(&[*luma], 1, 1, 1, i as i64 * 40000)?.cut;
+        }
+        assert_eq!(last, cut);
+    }
+    Ok(())
+}
+
 // A list of the cuts at 400000, 1400000 and 2400000, a second apart: in Suppress none of one stretch is refused.
 fn list_of_cuts() -> Result<(), Refusal> {
-    let options = ContentOptions {
-        filter_mode: FilterMode::Suppress,
-        weights: Components::LUMA_ONLY_WEIGHTS,
-        ..ContentOptions::default()
-    };
+    let options = ContentOptions { filter_mode: FilterMode::Suppress, ..ContentOptions::luma_only() };
     let mut detector = ContentDetector::with_options(options)?;
     let mut list = CutList::new(options.min_duration);
     for (ts, luma) in [(0, 100), (400000, 130), (900000, 100), (1400000, 130), (2400000, 100)] {

@@ -20,7 +20,7 @@
  *     struct mw_memory memory;
  *     int64_t cut;
  *
- *     mw_content_default(&state);
+ *     mw_content_new(&state, MW_LUMA_CONTENT_SETTINGS); // for BGR or HSV frames: mw_content_default(&state)
  *     if (mw_memory_init(&memory, 640, 480) != 0)
  *         return 1;
  *     while (next_frame(&luma, &ts)) { // 640 * 480 bytes, row by row, and their timestamp
@@ -31,6 +31,9 @@
  *             printf("a new clip starts at %lld\n", (long long)cut);
  *     }
  *     mw_memory_free(&memory);
+ *
+ * Luma frames want luma-only weights and a threshold for them, as here. With the default settings they score a third of
+ * their luma difference, and next to no cut is found.
  *
  * Build it: cc film.c $(pkg-config --cflags --libs mawerodu). The library is libstation.a, for x86-64 Linux; it needs
  * nothing but memcpy, memmove and memset.
@@ -251,8 +254,21 @@ enum mw_filter_mode { MW_MERGE = 0, MW_SUPPRESS = 1 };
 #define MW_DEFAULT_WEIGHTS 1.0, 1.0, 1.0, 0.0
 #define MW_DEFAULT_KERNEL 0, 0
 
-/* For luma frames: the score is the luma difference itself. */
+/* For luma frames, which have no hue and no saturation. With these weights the score is the luma difference itself, and
+ * the threshold of the content detector is a luma difference too. That of the adaptive detector is a ratio and stays 3;
+ * its min_content_val of 15 is then a luma difference of 15. With the default weights a score is a third of the luma
+ * difference: 27 asks for a luma difference of 81, and 15 for one of 45. */
 #define MW_LUMA_WEIGHTS 0.0, 0.0, 1.0, 0.0
+#define MW_LUMA_THRESHOLD 27.0
+
+/* All arguments after the state, for luma frames: mw_content_new(&state, MW_LUMA_CONTENT_SETTINGS) and
+ * mw_adaptive_new(&state, MW_LUMA_ADAPTIVE_SETTINGS). They are not refused. The rest is as by default; to change it,
+ * write the arguments out. */
+#define MW_LUMA_CONTENT_SETTINGS \
+    MW_LUMA_THRESHOLD, MW_DEFAULT_MIN_DURATION, MW_LUMA_WEIGHTS, MW_MERGE, MW_DEFAULT_KERNEL, 1
+#define MW_LUMA_ADAPTIVE_SETTINGS \
+    MW_DEFAULT_ADAPTIVE_THRESHOLD, MW_DEFAULT_MIN_DURATION, MW_DEFAULT_WINDOW_WIDTH, MW_DEFAULT_MIN_CONTENT_VAL, \
+        MW_LUMA_WEIGHTS, MW_DEFAULT_KERNEL, 1
 
 uint32_t mw_content_default(struct mw_content *state);
 uint32_t mw_content_new(struct mw_content *state, double threshold, uint64_t min_duration, double hue,
@@ -289,7 +305,8 @@ uint32_t mw_adaptive_new(struct mw_adaptive *state, double threshold, uint64_t m
  * are off is 0. A refused frame has no sums: a plain call leaves the answer as it was, a feed call makes all five 0.
  *
  * Luma frames with the default weights: h and s are 0, so the score is a third of the luma difference, and the default
- * threshold of 27 is reached at a luma difference of 81. With MW_LUMA_WEIGHTS it is reached at 27.
+ * threshold of 27 is reached at a luma difference of 81. With MW_LUMA_WEIGHTS it is reached at 27. So make the state
+ * for luma frames with MW_LUMA_CONTENT_SETTINGS or MW_LUMA_ADAPTIVE_SETTINGS, which have these weights.
  *
  * No score: the first frame after a settings call or clear has none, nor has a frame of another width or height than
  * the frame before. It starts a stretch, and is never a cut; all other frames have a score. Refused frames do not
@@ -347,9 +364,12 @@ uint32_t mw_adaptive_new(struct mw_adaptive *state, double threshold, uint64_t m
  *
  * The calls with a struct mw_memory (below) take eight arguments, for HSV ten. */
 
+/* Luma frames want luma-only weights and a threshold for them, MW_LUMA_CONTENT_SETTINGS: with the default weights the
+ * score is a third of the luma difference. */
 uint32_t mw_content_luma(struct mw_content *state, struct mw_answer *answer, const uint8_t *plane, size_t plane_len,
                          uint32_t width, uint32_t height, uint32_t stride, int64_t ts, uint8_t *store, size_t store_len,
                          uint8_t *scratch, size_t scratch_len, int32_t *magnitudes, size_t magnitudes_len);
+
 uint32_t mw_content_bgr(struct mw_content *state, struct mw_answer *answer, const uint8_t *pixels, size_t pixels_len,
                         uint32_t width, uint32_t height, uint32_t stride, int64_t ts, uint8_t *store, size_t store_len,
                         uint8_t *scratch, size_t scratch_len, int32_t *magnitudes, size_t magnitudes_len);
@@ -358,10 +378,13 @@ uint32_t mw_content_hsv(struct mw_content *state, struct mw_answer *answer, cons
                         uint32_t width, uint32_t height, uint32_t stride, int64_t ts, uint8_t *store, size_t store_len,
                         uint8_t *scratch, size_t scratch_len, int32_t *magnitudes, size_t magnitudes_len);
 
+/* Luma frames want luma-only weights, MW_LUMA_ADAPTIVE_SETTINGS: with the default weights the score is a third of the
+ * luma difference, and a min_content_val of 15 asks for one of 45. */
 uint32_t mw_adaptive_luma(struct mw_adaptive *state, struct mw_answer *answer, const uint8_t *plane, size_t plane_len,
                           uint32_t width, uint32_t height, uint32_t stride, int64_t ts, uint8_t *store,
                           size_t store_len, uint8_t *scratch, size_t scratch_len, int32_t *magnitudes,
                           size_t magnitudes_len);
+
 uint32_t mw_adaptive_bgr(struct mw_adaptive *state, struct mw_answer *answer, const uint8_t *pixels, size_t pixels_len,
                          uint32_t width, uint32_t height, uint32_t stride, int64_t ts, uint8_t *store, size_t store_len,
                          uint8_t *scratch, size_t scratch_len, int32_t *magnitudes, size_t magnitudes_len);
@@ -605,6 +628,7 @@ static inline void mw_memory_lend(struct mw_memory *memory, struct mw_lent *lent
 /* The feed calls: the frame calls, with memory->answer for the answer, which they empty first. The three planes of an
  * HSV frame have plane_len bytes each. */
 
+/* Luma frames want luma-only weights and a threshold for them, MW_LUMA_CONTENT_SETTINGS: see mw_content_luma. */
 static inline uint32_t mw_content_feed_luma(struct mw_content *state, struct mw_memory *memory, const uint8_t *plane,
                                             size_t plane_len, uint32_t width, uint32_t height, uint32_t stride,
                                             int64_t ts)
@@ -633,6 +657,7 @@ static inline uint32_t mw_content_feed_hsv(struct mw_content *state, struct mw_m
                           height, stride, ts, MW_LENT(lent));
 }
 
+/* Luma frames want luma-only weights, MW_LUMA_ADAPTIVE_SETTINGS: see mw_adaptive_luma. */
 static inline uint32_t mw_adaptive_feed_luma(struct mw_adaptive *state, struct mw_memory *memory,
                                              const uint8_t *plane, size_t plane_len, uint32_t width, uint32_t height,
                                              uint32_t stride, int64_t ts)

@@ -5,7 +5,7 @@
 //! first frame of the new clip.
 //!
 //! ```text
-//! let mut detector = ContentDetector::new();
+//! let mut detector = ContentDetector::with_options(ContentOptions::luma_only())?; // BGR or HSV frames: ::new()
 //! for (ts, luma) in frames {
 //!     let answer = detector.process_luma(&luma, width, height, width, ts)?;
 //!     if let Some(cut) = answer.cut {
@@ -41,8 +41,9 @@
 //! ```
 //!
 //! A luma frame has hue and saturation 0. With the default weights 1, 1, 1, 0 its score is therefore a third of the
-//! luma difference, and a threshold of 27 is reached at a luma difference of 81.
-//! [`Components::LUMA_ONLY_WEIGHTS`] make the score the luma difference itself.
+//! luma difference, and a threshold of 27 is reached at a luma difference of 81: next to no cut is found.
+//! [`Components::LUMA_ONLY_WEIGHTS`] make the score the luma difference itself. So luma frames want these weights and a
+//! threshold for them: [`ContentOptions::luma_only`] and [`AdaptiveOptions::luma_only`] have them.
 //!
 //! The edge plane is computed only if the weight of edges is not zero. It has no edges if a side of the frame is below
 //! 3.
@@ -334,10 +335,11 @@ pub struct Components {
 
 impl Components {
     /// Hue, saturation and luma count alike; edges are off. Luma frames, which have no hue and no saturation, score a
-    /// third of their luma difference.
+    /// third of their luma difference, and want `LUMA_ONLY_WEIGHTS`.
     pub const DEFAULT_WEIGHTS: Components = Components { hue: 1.0, saturation: 1.0, luma: 1.0, edges: 0.0 };
 
-    /// Only luma counts: the score is the luma difference itself. For luma frames.
+    /// Only luma counts: the score is the luma difference itself. For luma frames; [`ContentOptions::luma_only`] and
+    /// [`AdaptiveOptions::luma_only`] have them.
     pub const LUMA_ONLY_WEIGHTS: Components = Components { hue: 0.0, saturation: 0.0, luma: 1.0, edges: 0.0 };
 }
 
@@ -403,7 +405,8 @@ pub enum FilterMode {
     Suppress,
 }
 
-/// Settings of the content detector. `ContentOptions::default()` has the defaults.
+/// Settings of the content detector. `ContentOptions::default()` has the defaults, and `ContentOptions::luma_only()`
+/// has what luma frames want.
 #[derive(Clone, Copy, Debug, PartialEq)]
 pub struct ContentOptions {
     /// A frame with at least this score is above the threshold. Any number but NaN; 27 by default.
@@ -424,20 +427,32 @@ pub struct ContentOptions {
     pub initial_cut: bool,
 }
 
-impl Default for ContentOptions {
-    fn default() -> Self {
-        ContentOptions {
-            threshold: 27.0,
-            min_duration: 1_000_000,
-            weights: Components::DEFAULT_WEIGHTS,
-            filter_mode: FilterMode::Merge,
-            kernel_size: None,
-            initial_cut: true,
-        }
+impl ContentOptions {
+    const DEFAULT: Self = ContentOptions {
+        threshold: 27.0,
+        min_duration: 1_000_000,
+        weights: Components::DEFAULT_WEIGHTS,
+        filter_mode: FilterMode::Merge,
+        kernel_size: None,
+        initial_cut: true,
+    };
+
+    /// For luma frames: luma-only weights and a threshold for them; the rest is as by default. The score is the luma
+    /// difference itself, so the threshold of 27 is a luma difference of 27. With the default settings a luma frame
+    /// reaches the threshold only at a luma difference of 81.
+    pub const fn luma_only() -> Self {
+        ContentOptions { threshold: 27.0, weights: Components::LUMA_ONLY_WEIGHTS, ..Self::DEFAULT }
     }
 }
 
-/// Settings of the adaptive detector. `AdaptiveOptions::default()` has the defaults.
+impl Default for ContentOptions {
+    fn default() -> Self {
+        Self::DEFAULT
+    }
+}
+
+/// Settings of the adaptive detector. `AdaptiveOptions::default()` has the defaults, and `AdaptiveOptions::luma_only()`
+/// has what luma frames want.
 #[derive(Clone, Copy, Debug, PartialEq)]
 pub struct AdaptiveOptions {
     /// A frame whose score has at least this ratio to the average of the scores around it may be a cut. Any number but
@@ -461,17 +476,28 @@ pub struct AdaptiveOptions {
     pub initial_cut: bool,
 }
 
+impl AdaptiveOptions {
+    const DEFAULT: Self = AdaptiveOptions {
+        threshold: 3.0,
+        min_duration: 1_000_000,
+        window_width: 2,
+        min_content_val: 15.0,
+        weights: Components::DEFAULT_WEIGHTS,
+        kernel_size: None,
+        initial_cut: true,
+    };
+
+    /// For luma frames: luma-only weights; the rest is as by default. The threshold is a ratio and stays 3. The score
+    /// is the luma difference itself, so the `min_content_val` of 15 is a luma difference of 15. With the default
+    /// settings a luma frame reaches it only at a luma difference of 45.
+    pub const fn luma_only() -> Self {
+        AdaptiveOptions { weights: Components::LUMA_ONLY_WEIGHTS, ..Self::DEFAULT }
+    }
+}
+
 impl Default for AdaptiveOptions {
     fn default() -> Self {
-        AdaptiveOptions {
-            threshold: 3.0,
-            min_duration: 1_000_000,
-            window_width: 2,
-            min_content_val: 15.0,
-            weights: Components::DEFAULT_WEIGHTS,
-            kernel_size: None,
-            initial_cut: true,
-        }
+        Self::DEFAULT
     }
 }
 
@@ -554,8 +580,9 @@ fn blank<const N: usize>(library: u64) -> [u64; N] {
 macro_rules! detector {
     ($name:ident, $state:ident, $words:ident, $default:ident, $luma:ident, $bgr:ident, $hsv:ident, $clear:ident, $has_score:ident, $score:ident, $has_components:ident, $component:ident) => {
         impl $name {
-            /// A detector with the default settings. It panics if the linked library has another version than
-            /// [`VERSION`], the patch number aside; so do the other constructors.
+            /// A detector with the default settings. Luma frames want others: see `process_luma`. It panics if the
+            /// linked library has another version than [`VERSION`], the patch number aside; so do the other
+            /// constructors.
             pub fn new() -> Self {
                 let mut state = blank(unsafe { sys::$words() });
                 let number = unsafe { sys::$default(&mut state) };
@@ -581,6 +608,9 @@ macro_rules! detector {
 
             /// Takes a luma frame with its timestamp in microseconds. Row r starts at byte r * `stride` of `plane`;
             /// height * `stride` bytes are needed, the padding of the last row included. Refused by 1, 2 or 3.
+            ///
+            /// Luma frames want luma-only weights and a threshold for them: [`ContentOptions::luma_only`] or
+            /// [`AdaptiveOptions::luma_only`]. With the default weights the score is a third of the luma difference.
             pub fn process_luma(
                 &mut self,
                 plane: &[u8],
@@ -844,7 +874,7 @@ impl AdaptiveDetector {
 /// rising order, each at least `min_duration` after the one before. Stamps can be added and removed in any order.
 ///
 /// ```text
-/// let options = ContentOptions { filter_mode: FilterMode::Suppress, ..ContentOptions::default() };
+/// let options = ContentOptions { filter_mode: FilterMode::Suppress, ..ContentOptions::luma_only() };
 /// let mut detector = ContentDetector::with_options(options)?;
 /// let mut cuts = CutList::new(options.min_duration);
 /// for (ts, luma) in frames {
