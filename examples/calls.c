@@ -1,8 +1,8 @@
-/* Calls every function of mawerodu.h, the plain frame calls and the feed calls of both detectors and the list calls, and
- * prints the name of each function that it calls and what came of it. Each argument differs from its neighbours, so that
- * two of them in the other order would show. calls_c.stdout is what it must print; it is the output of calls.py, a model
- * of docs/RULES.md that knows nothing of the library. examples/run compares the two, and that no function of the header
- * is left out. It compiles as C99 and as C++17. */
+/* Calls every function of mawerodu.h, the plain frame calls and the feed calls of both detectors, the calls of a light
+ * plan and the list calls, and prints the name of each function that it calls and what came of it. Each argument
+ * differs from its neighbours, so that two of them in the other order would show. calls_c.stdout is what it must print;
+ * it is the output of calls.py, a model of docs/RULES.md that knows nothing of the library. examples/run compares the
+ * two, and that no function of the header is left out. It compiles as C99 and as C++17. */
 #include "mawerodu.h"
 
 #include <stdio.h>
@@ -143,9 +143,17 @@ static void words(const struct detector *d)
     printf("\n");
 }
 
+/* Plans by which some of the film's frames are above, and by another row would not be. The film's medians are 90, 150,
+ * 120, 70, 160, 161, 160, 30, 35 and 200. */
+static const char *const plans[2] = {
+    "161,161,0\n0,34,117\n35,69,1\n70,120,101\n121,160,66\n162,255,140\n",
+    "36,255,30\n0,35,0\n",
+};
+
 /* The settings: 0 are the defaults; 1 have a kernel and no initial cut, 2 the other way round. In 2 the size of the
- * kernel is not looked at. All of them count hue and saturation, since the film has colours. A film of luma frames
- * wants MW_LUMA_CONTENT_SETTINGS or MW_LUMA_ADAPTIVE_SETTINGS, as in cut.c. */
+ * kernel is not looked at. 3 and 4 of the content detector are 1 and 2 with a light plan. All of them count hue and
+ * saturation, since the film has colours. A film of luma frames wants MW_LUMA_CONTENT_SETTINGS or
+ * MW_LUMA_ADAPTIVE_SETTINGS, as in cut.c. */
 static void settle(struct detector *d, int settings)
 {
     uint32_t number;
@@ -169,8 +177,16 @@ static void settle(struct detector *d, int settings)
         case 1:
             number = CALL(mw_content_new, (&d->c, 10.5, 300000, 1.0, 2.0, 3.0, 4.0, MW_SUPPRESS, 2, 3, 0));
             break;
-        default:
+        case 2:
             number = CALL(mw_content_new, (&d->c, 20.25, 250000, 3.0, 1.0, 2.0, 0.0, MW_MERGE, 0, 9, 7));
+            break;
+        case 3:
+            number = CALL(mw_content_new_with_plan, (&d->c, 10.5, 300000, 1.0, 2.0, 3.0, 4.0, MW_SUPPRESS, 2, 3, 0,
+                                                     (const uint8_t *)plans[0], strlen(plans[0])));
+            break;
+        default:
+            number = CALL(mw_content_new_with_plan, (&d->c, 20.25, 250000, 3.0, 1.0, 2.0, 0.0, MW_MERGE, 0, 9, 7,
+                                                     (const uint8_t *)plans[1], strlen(plans[1])));
         }
     printf("%u\n", (unsigned)number);
     words(d);
@@ -307,10 +323,13 @@ static int nothing(const struct mw_answer *answer)
     return mw_count(answer) == 0 && !mw_cut(answer, &cut) && !mw_score(answer, &score);
 }
 
-/* The sum of each plane in the store, and whether the rest was kept. */
+/* The median of the luma plane in the store, the sum of each plane, and whether the rest was kept. */
 static void show_store(const uint8_t *store, int rest)
 {
-    printf("store");
+    uint8_t median = FILL;
+
+    printf("%u ", (unsigned)CALL(mw_luma_median, (store + 2 * PIXELS, PIXELS, WIDTH, HEIGHT, WIDTH, &median)));
+    printf("%u store", (unsigned)median);
     for (int plane = 0; plane < 4; plane++) {
         unsigned sum = 0;
         for (int i = 0; i < PIXELS; i++)
@@ -472,6 +491,188 @@ static void show_refusals(struct detector *d)
     empty(d, &memory);
     printf("%d\n", CALL(mw_memory_init, (&memory, MW_MAX_SIDE + 1, 1)));
     printf("%d\n", CALL(mw_memory_init, (&memory, 1, MW_MAX_SIDE + 1)));
+}
+
+/* ---- The light plan ---- */
+
+/* Settings, and a text of a plan: in order, or with a fault. */
+enum settings { GOOD, WEIGHT, ZERO, KERNEL, NAN_THRESHOLD, MODE };
+
+struct planned {
+    enum settings settings;
+    const char *text;
+};
+
+static const struct planned texts[] = {
+    /* plans, and none */
+    {GOOD, ""}, {GOOD, "0,255,30\n"}, {GOOD, "0,255,0\n"}, {GOOD, "128,255,40\n0,127,12\n"}, {GOOD, "0,0,1\n1,255,9\n"},
+    {GOOD, "0,254,1\n255,255,255\n"},
+    {GOOD, "0,0,0\n1,1,1\n2,2,2\n3,3,3\n4,4,4\n5,5,5\n6,6,6\n7,7,7\n8,8,8\n9,9,9\n10,10,10\n11,11,11\n12,12,12\n"
+           "13,13,13\n14,14,14\n15,255,255\n"},
+    {GOOD, "240,255,240\n224,239,224\n208,223,208\n192,207,192\n176,191,176\n160,175,160\n144,159,144\n128,143,128\n"
+           "112,127,112\n100,111,100\n84,99,84\n68,83,68\n52,67,52\n36,51,36\n20,35,20\n0,19,0\n"},
+    /* other shapes: line feeds, fields, digits, numbers */
+    {GOOD, "0,255,30"}, {GOOD, "\n"}, {GOOD, "0,255,30\n\n"}, {GOOD, "\n0,255,30\n"}, {GOOD, "0,255,30\r\n"},
+    {GOOD, "0,255\n"}, {GOOD, "0,255,30,\n"}, {GOOD, "0,255,30,1\n"}, {GOOD, ",0,255,30\n"}, {GOOD, "0,,30\n"},
+    {GOOD, ",,\n"}, {GOOD, "0;255;30\n"}, {GOOD, "00,255,30\n"}, {GOOD, "0,255,030\n"}, {GOOD, " 0,255,30\n"},
+    {GOOD, "0,255,30 \n"}, {GOOD, "+0,255,30\n"}, {GOOD, "-0,255,30\n"}, {GOOD, "0,255,3.0\n"}, {GOOD, "0,255,3e1\n"},
+    {GOOD, "0x0,255,30\n"}, {GOOD, "\"0\",255,30\n"}, {GOOD, "0,256,30\n"}, {GOOD, "0,255,256\n"},
+    {GOOD, "256,255,30\n"}, {GOOD, "0,18446744073709551871,30\n"}, {GOOD, "from,to,threshold\n0,255,30\n"},
+    /* a first number over the second, and more than 16 rows */
+    {GOOD, "255,0,30\n"}, {GOOD, "0,255,30\n9,8,1\n"},
+    {GOOD, "0,0,0\n1,1,1\n2,2,2\n3,3,3\n4,4,4\n5,5,5\n6,6,6\n7,7,7\n8,8,8\n9,9,9\n10,10,10\n11,11,11\n12,12,12\n"
+           "13,13,13\n14,14,14\n15,15,15\n16,255,255\n"},
+    /* two rows for a median, at an end, within, and the same row twice */
+    {GOOD, "0,100,5\n100,255,9\n"}, {GOOD, "100,255,9\n0,100,9\n"}, {GOOD, "0,255,5\n7,7,9\n"},
+    {GOOD, "0,255,30\n0,255,30\n"}, {GOOD, "0,254,5\n255,255,9\n255,255,8\n"}, {GOOD, "0,0,5\n0,255,9\n"},
+    /* none for a median: within, the first, the last, and for most */
+    {GOOD, "0,100,5\n102,255,9\n"}, {GOOD, "1,255,30\n"}, {GOOD, "0,254,30\n"}, {GOOD, "128,128,1\n"},
+    /* two faults of a text: the smaller number, wherever they stand */
+    {GOOD, "0,100,5\n100,200,5\n"}, {GOOD, "0,99,5\n201,255,5\n150,160,5\n160,170,5\n"},
+    {GOOD, "0,100,5\n100,255,5\n9,8,1\n"}, {GOOD, "0,100,5\n102,255,9"}, {GOOD, "1,255,30\n0\n"},
+    /* the other settings are refused first, and the mode before the plan */
+    {WEIGHT, "x"}, {ZERO, "x"}, {KERNEL, "0,100,5\n100,255,9\n"}, {NAN_THRESHOLD, "1,255,30\n"}, {MODE, "x"},
+    {MODE, "0,255,30\n"}, {NAN_THRESHOLD, "0,255,30\n"}, {MODE, ""},
+};
+
+/* The text of the plan that a state holds; a line feed is shown as a semicolon. */
+static void show_plan(const struct mw_content *state)
+{
+    uint8_t text[MW_PLAN_TEXT + BEHIND];
+    uint32_t length;
+    int rest = 1;
+
+    memset(text, FILL, sizeof text);
+    length = CALL(mw_content_plan, (state, text));
+    printf("%u ", (unsigned)length);
+    for (uint32_t i = 0; i < sizeof text; i++)
+        if (i >= length)
+            rest = rest && text[i] == FILL;
+        else
+            printf("%c", text[i] == '\n' ? ';' : text[i]);
+    printf(" %s\n", rest ? "kept" : "not kept");
+}
+
+/* Settings with these faults, and a plan; refused, they are the defaults. */
+static void show_texts(void)
+{
+    for (unsigned i = 0; i < sizeof texts / sizeof *texts; i++) {
+        enum settings fault = texts[i].settings;
+        double weight = fault == WEIGHT ? 1048577.0 : fault == ZERO ? 0.0 : 1.0, zero = 0.0;
+        struct mw_content state, defaults;
+        uint32_t number;
+
+        memset(&state, FILL, sizeof state);
+        number = CALL(mw_content_new_with_plan,
+                      (&state, fault == NAN_THRESHOLD ? zero / zero : 26.5, 900000, weight, 0.0, 0.0, 0.0,
+                       fault == MODE ? 2 : MW_SUPPRESS, 1, fault == KERNEL ? 4 : 5, 0,
+                       (const uint8_t *)texts[i].text, strlen(texts[i].text)));
+        mw_content_default(&defaults);
+        printf("%u %s ", (unsigned)number,
+               memcmp(&state, &defaults, sizeof state) == 0 ? "the defaults" : "these settings");
+        show_plan(&state);
+    }
+}
+
+/* The words of a plan: its count, and 16 bytes each for first medians, last medians and thresholds. */
+struct plan_words {
+    uint64_t count;
+    uint8_t from[16], to[16], threshold[16];
+};
+
+/* In order, with something behind its rows; then with a fault each. */
+static const struct plan_words made_plans[] = {
+    {2, {0, 100, 7, 9}, {99, 255, 3, 9}, {8, 27, 5, 1}},
+    {0, {1}, {2}, {3}},
+    {16,
+     {0, 1, 2, 3, 4, 5, 6, 7, 8, 9, 10, 11, 12, 13, 14, 15},
+     {0, 1, 2, 3, 4, 5, 6, 7, 8, 9, 10, 11, 12, 13, 14, 255},
+     {1, 2, 3, 4, 5, 6, 7, 8, 9, 10, 11, 12, 13, 14, 15, 255}},
+    {17,
+     {0, 1, 2, 3, 4, 5, 6, 7, 8, 9, 10, 11, 12, 13, 14, 15},
+     {0, 1, 2, 3, 4, 5, 6, 7, 8, 9, 10, 11, 12, 13, 14, 255},
+     {1, 2, 3, 4, 5, 6, 7, 8, 9, 10, 11, 12, 13, 14, 15, 255}},
+    {4294967295u, {0}, {255}, {30}},
+    {4294967296u, {0}, {255}, {30}},
+    {4294967297u, {0}, {255}, {30}},
+    {1, {255}, {0}, {30}},
+    {2, {0, 100}, {100, 255}, {8, 27}},
+    {2, {0, 100}, {98, 255}, {8, 27}},
+    {1, {0}, {254}, {30}},
+    {1, {1}, {255}, {30}},
+};
+
+static void put_word(uint64_t *word, const uint8_t *bytes)
+{
+    *word = 0;
+    for (int i = 7; i >= 0; i--)
+        *word = *word << 8 | bytes[i];
+}
+
+static void put_plan(struct mw_content *state, const struct plan_words *plan)
+{
+    const uint8_t *const parts[3] = {plan->from, plan->to, plan->threshold};
+
+    state->words[27] = plan->count;
+    for (int part = 0; part < 3; part++)
+        for (int half = 0; half < 2; half++)
+            put_word(&state->words[28 + 2 * part + half], parts[part] + 8 * half);
+}
+
+/* Each of these plans in a state: its text; a clear, a frame, and the words after it. */
+static void show_made_plans(void)
+{
+    static struct detector d;
+
+    for (unsigned i = 0; i < sizeof made_plans / sizeof *made_plans; i++) {
+        struct frame f = frame_of(&film[0]);
+        struct mw_content before;
+        uint32_t number;
+
+        d.adaptive = 0;
+        if (mw_content_default(&d.c) != MW_OK)
+            return;
+        put_plan(&d.c, &made_plans[i]);
+        show_plan(&d.c);
+        before = d.c;
+        number = CALL(mw_content_clear, (&d.c));
+        printf("%u %s\n", (unsigned)number, memcmp(&d.c, &before, sizeof before) == 0 ? "as before" : "changed");
+        d.c = before;
+        draw(&film[0]);
+        refill();
+        printf("%u\n", (unsigned)plain(&d, film[0].kind, &f));
+        words(&d);
+    }
+    spoil(&d);
+    show_plan(&d.c);
+}
+
+/* A median, of a plane with padding; of one without pixels; and refused, in the order of the numbers. */
+static void show_medians(void)
+{
+    static const uint8_t plane[] = {9, 1, 8, PADDING, 2, 7, 3, PADDING, 6, 4, 5, PADDING};
+    static const struct {
+        uint32_t width, height, stride;
+        size_t length;
+    } calls[] = {
+        {3, 3, 4, 12}, {3, 2, 4, 8}, {2, 3, 4, 12}, {1, 1, 1, 1}, {4, 3, 4, 12}, {0, 3, 4, 12}, {3, 0, 4, 12},
+        {0, 0, 0, 0}, {4097, 0, 0, 0}, {0, 4097, 0, 0}, {4097, 1, 4, 12}, {3, 3, 2, 12}, {3, 3, 2, 0},
+        {3, 3, 4, 11}, {0, 3, 4, 11},
+    };
+
+    for (unsigned i = 0; i < sizeof calls / sizeof *calls; i++) {
+        uint8_t median = FILL;
+        uint32_t number =
+            CALL(mw_luma_median, (plane, calls[i].length, calls[i].width, calls[i].height, calls[i].stride, &median));
+        printf("%u %u\n", (unsigned)number, (unsigned)median);
+    }
+}
+
+static void show_plans(void)
+{
+    show_texts();
+    show_made_plans();
+    show_medians();
 }
 
 /* ---- The list of a sitting ---- */
@@ -733,7 +934,7 @@ static void numbers(void)
         printf("%llu ", (unsigned long long)CALL(mw_scratch_bytes, (width, height)));
         printf("%llu\n", (unsigned long long)CALL(mw_magnitudes, (width, height)));
     }
-    for (uint32_t number = 0; number <= 20; number++)
+    for (uint32_t number = 0; number <= 23; number++)
         printf("%u %s\n", (unsigned)number, CALL(mw_text, (number)));
 }
 
@@ -744,13 +945,14 @@ int main(void)
     numbers();
     for (d.adaptive = 0; d.adaptive < 2; d.adaptive++) {
         settle(&d, 0);
-        for (int settings = 1; settings < 3; settings++)
+        for (int settings = 1; settings < (d.adaptive ? 3 : 5); settings++)
             for (int feeding = 0; feeding < 2; feeding++) {
                 settle(&d, settings);
                 show_film(&d, feeding);
             }
         show_refusals(&d);
     }
+    show_plans();
     show_lists();
     return 0;
 }

@@ -5,6 +5,7 @@ This is a small model of docs/RULES.md and of the layout of words in include/maw
 these two texts and not from the proved code, and it does not call the library. Pictures, settings and calls are those of
 calls.c, in the same order; a rule is named where it is used. Floats are those of Python, which are doubles.
 """
+import re
 import struct
 from fractions import Fraction
 
@@ -153,6 +154,10 @@ class Detector:
             return planes + [edge_plane(planes[2], self.kernel or auto_kernel())]
         return planes + [[self.fill] * (WIDTH * HEIGHT)]
 
+    def median(self):
+        """The luma median of the last frame (RULES 5.3)."""
+        return sorted(self.previous[2])[WIDTH * HEIGHT // 2]
+
     def frame(self, picture):
         """The cut, the score, the components, the sums and the count of a frame of WIDTH x HEIGHT."""
         planes = self.store(picture)
@@ -184,11 +189,44 @@ class Detector:
         return words + [self.width, self.height]
 
 
-class Content(Detector):
-    VERSION = 0x4D57434F4E543031
+# ---- the light plan (RULES 18) ----
 
-    def __init__(self, threshold, min_duration, weights, mode, kernel, initial_cut):
-        self.mode = mode
+def rows_of(text):
+    """The rows that a text says, or None if one has another shape."""
+    rows = []
+    parts = text.split("\n")
+    for line in parts[:-1]:
+        found = re.fullmatch(",".join(["(0|[1-9][0-9]{0,2})"] * 3), line, flags=re.ASCII)
+        numbers = [int(number) for number in found.groups()] if found else [256]
+        if max(numbers) > 255:
+            return None
+        rows.append(tuple(numbers))
+    return rows if parts[-1] == "" else None
+
+
+def rows_refusal(rows):
+    if rows is None or len(rows) > 16 or any(first > last for first, last, _ in rows):
+        return 20
+    having = [sum(first <= median <= last for first, last, _ in rows) for median in range(256)]
+    return 0 if not rows else 21 if max(having) > 1 else 22 if min(having) == 0 else 0
+
+
+def plan_words(rows):
+    words = [len(rows)]
+    for part in range(3):
+        words += struct.unpack("<2Q", bytes(row[part] for row in rows).ljust(16, b"\0"))
+    return words
+
+
+def plan_text(rows):
+    return "".join("%d,%d,%d\n" % row for row in rows)
+
+
+class Content(Detector):
+    VERSION = 0x4D57434F4E543032
+
+    def __init__(self, threshold, min_duration, weights, mode, kernel, initial_cut, plan=""):
+        self.mode, self.plan = mode, rows_of(plan)
         super().__init__(threshold, min_duration, weights, kernel, initial_cut)
 
     def clear(self):
@@ -200,7 +238,8 @@ class Content(Detector):
         self.enabled = self.pending = False
 
     def scored(self, ts):
-        above = self.score >= self.threshold
+        mine = [threshold for first, last, threshold in self.plan if first <= self.median() <= last]
+        above = self.score >= (mine[0] if self.plan else self.threshold)
         if self.last is None:
             self.last = self.seed(ts)
         met = self.met(ts, self.last)
@@ -225,7 +264,7 @@ class Content(Detector):
     def words(self):
         words = [self.VERSION, bits(self.threshold), self.min_duration] + [bits(w) for w in self.weights] + [self.mode]
         words += self.shared() + maybe(self.last, stamp) + [int(self.enabled), int(self.pending)]
-        return words + maybe(self.start, stamp)
+        return words + maybe(self.start, stamp) + plan_words(self.plan)
 
 
 class Adaptive(Detector):
@@ -472,13 +511,16 @@ TEXTS = (
     "the stamp equals one of the list, or is closer to one than min_duration",
     "the list holds 512 stamps",
     "the stamp is not in the list",
+    "a row of the plan has another shape or starts past its end, or there are more than 16 rows",
+    "two rows of the plan have the same median",
+    "a median has no row in the plan",
     "unknown number",
 )
 
 
 def numbers():
     print("mw_version MW_VERSION")
-    print("mw_content_words", 27)
+    print("mw_content_words", 34)
     print("mw_adaptive_words", 288)
     print("mw_answer_words", 13)
     print("mw_list_words", 3)
@@ -517,7 +559,8 @@ def film(name, detector, feed):
     for picture in FILM:
         call = f"mw_{name}_{'feed_' if feed else ''}{picture[0]}"
         shown_answer = answer(*detector.frame(picture))
-        print(call, picture[1], 0, shown_answer, "store", *(sum(plane) for plane in detector.previous), "kept")
+        sums = [sum(plane) for plane in detector.previous]
+        print(call, picture[1], 0, shown_answer, "mw_luma_median 0", detector.median(), "store", *sums, "kept")
     readers(name, detector)
     print("words", shown(detector.words()))
     print(f"mw_{name}_clear", 0)
@@ -545,13 +588,95 @@ def empty(name):
             print(f"mw_{name}_feed_{kind}", fault, "no cut, no score, no sums")
 
 
+PLANS = (
+    "161,161,0\n0,34,117\n35,69,1\n70,120,101\n121,160,66\n162,255,140\n",
+    "36,255,30\n0,35,0\n",
+)
+ONES = "".join(f"{i},{i},{i}\n" for i in range(15))
+
+# plans, and none; other shapes; a first number over the second and more than 16 rows; two rows for a median; none for one; two faults
+TEXTS_OF_PLANS = [
+    "", "0,255,30\n", "0,255,0\n", "128,255,40\n0,127,12\n", "0,0,1\n1,255,9\n", "0,254,1\n255,255,255\n",
+    ONES + "15,255,255\n",
+    "240,255,240\n224,239,224\n208,223,208\n192,207,192\n176,191,176\n160,175,160\n144,159,144\n128,143,128\n"
+    "112,127,112\n100,111,100\n84,99,84\n68,83,68\n52,67,52\n36,51,36\n20,35,20\n0,19,0\n",
+    "0,255,30", "\n", "0,255,30\n\n", "\n0,255,30\n", "0,255,30\r\n",
+    "0,255\n", "0,255,30,\n", "0,255,30,1\n", ",0,255,30\n", "0,,30\n",
+    ",,\n", "0;255;30\n", "00,255,30\n", "0,255,030\n", " 0,255,30\n",
+    "0,255,30 \n", "+0,255,30\n", "-0,255,30\n", "0,255,3.0\n", "0,255,3e1\n",
+    "0x0,255,30\n", '"0",255,30\n', "0,256,30\n", "0,255,256\n",
+    "256,255,30\n", "0,18446744073709551871,30\n", "from,to,threshold\n0,255,30\n",
+    "255,0,30\n", "0,255,30\n9,8,1\n", ONES + "15,15,15\n16,255,255\n",
+    "0,100,5\n100,255,9\n", "100,255,9\n0,100,9\n", "0,255,5\n7,7,9\n",
+    "0,255,30\n0,255,30\n", "0,254,5\n255,255,9\n255,255,8\n", "0,0,5\n0,255,9\n",
+    "0,100,5\n102,255,9\n", "1,255,30\n", "0,254,30\n", "128,128,1\n",
+    "0,100,5\n100,200,5\n", "0,99,5\n201,255,5\n150,160,5\n160,170,5\n", "0,100,5\n100,255,5\n9,8,1\n",
+    "0,100,5\n102,255,9", "1,255,30\n0\n",
+]
+# with settings that are refused by this number before the plan
+AFTER_OTHERS = [
+    (6, "x"), (7, "x"), (8, "0,100,5\n100,255,9\n"), (9, "1,255,30\n"), (15, "x"), (15, "0,255,30\n"), (9, "0,255,30\n"), (15, ""),
+]
+
+# the count in the words of a state, and its 16 rows, whatever the count
+TWO = [(0, 99, 8), (100, 255, 27), (7, 3, 5), (9, 9, 1)]
+SIXTEEN = [(i, i, i + 1) for i in range(15)] + [(15, 255, 255)]
+MADE_PLANS = [
+    (2, TWO), (0, [(1, 2, 3)]), (16, SIXTEEN), (17, SIXTEEN),
+    (2 ** 32 - 1, [(0, 255, 30)]), (2 ** 32, [(0, 255, 30)]), (2 ** 32 + 1, [(0, 255, 30)]),
+    (1, [(255, 0, 30)]), (2, [(0, 100, 8), (100, 255, 27)]), (2, [(0, 98, 8), (100, 255, 27)]), (1, [(0, 254, 30)]), (1, [(1, 255, 30)]),
+]
+PLANE = (9, 1, 8, 99, 2, 7, 3, 99, 6, 4, 5, 99)
+MEDIANS = [
+    (3, 3, 4, 12), (3, 2, 4, 8), (2, 3, 4, 12), (1, 1, 1, 1), (4, 3, 4, 12), (0, 3, 4, 12), (3, 0, 4, 12),
+    (0, 0, 0, 0), (4097, 0, 0, 0), (0, 4097, 0, 0), (4097, 1, 4, 12), (3, 3, 2, 12), (3, 3, 2, 0), (3, 3, 4, 11), (0, 3, 4, 11),
+]
+
+
+def show_plan(text):
+    print("mw_content_plan", len(text), text.replace("\n", ";"), "kept")
+
+
+def default_content():
+    return Content(27.0, 1000000, (1.0, 1.0, 1.0, 0.0), 0, None, True)
+
+
+def plans():
+    numbered = [(rows_refusal(rows_of(text)), text) for text in TEXTS_OF_PLANS]
+    for number, text in numbered + AFTER_OTHERS:
+        print("mw_content_new_with_plan", number, "the defaults" if number else "these settings", end=" ")
+        show_plan("" if number else text)
+    for count, rows in MADE_PLANS:
+        rows = (rows + [(0, 0, 0)] * 16)[:16]
+        held, is_record = rows[:count], count < 2 ** 32
+        bad = not is_record or count > 16 or rows_refusal(held) != 0
+        show_plan(plan_text(held) if is_record else "")
+        # a state is written with 0 behind the rows of its plan
+        print("mw_content_clear", "15 as before" if bad else "0 as before" if not any(map(any, rows[count:])) else "0 changed")
+        detector = default_content()
+        if bad:
+            words = detector.words()[:27] + [count] + plan_words(rows)[1:]
+        else:
+            detector.plan, detector.fill = held, 77
+            detector.frame(FILM[0])
+            words = detector.words()
+        print("mw_content_hsv", 15 if bad else 0)
+        print("words", shown(words))
+    show_plan("")
+    for width, height, stride, length in MEDIANS:
+        number = 1 if max(width, height) > 4096 else 2 if stride < width else 3 if length < height * stride else 0
+        pixels = [] if number else [PLANE[y * stride + x] for y in range(height) for x in range(width)]
+        median = 77 if number else sorted(pixels)[len(pixels) // 2] if pixels else 255
+        print("mw_luma_median", number, median)
+
+
 def detector_calls(name, default, made):
     print(f"mw_{name}_default", 0)
     print("words", shown(default.words()))
     for make in made:
         for feed in (False, True):
             detector = make()
-            print(f"mw_{name}_new", 0)
+            print(f"mw_{name}_new{'_with_plan' if name == 'content' and detector.plan else ''}", 0)
             print("words", shown(detector.words()))
             film(name, detector, feed)
     refused(name, False)
@@ -570,11 +695,14 @@ def main():
     detector_calls("content", Content(27.0, 1000000, weights, 0, None, True), (
         lambda: Content(10.5, 300000, (1.0, 2.0, 3.0, 4.0), 1, 3, False),
         lambda: Content(20.25, 250000, (3.0, 1.0, 2.0, 0.0), 0, None, True),
+        lambda: Content(10.5, 300000, (1.0, 2.0, 3.0, 4.0), 1, 3, False, PLANS[0]),
+        lambda: Content(20.25, 250000, (3.0, 1.0, 2.0, 0.0), 0, None, True, PLANS[1]),
     ))
     detector_calls("adaptive", Adaptive(3.0, 1000000, 2, 15.0, weights, None, True), (
         lambda: Adaptive(1.5, 200000, 1, 2.5, (4.0, 3.0, 1.0, 2.0), 3, False),
         lambda: Adaptive(1.25, 350000, 2, 5.5, (2.0, 1.0, 3.0, 0.0), None, True),
     ))
+    plans()
     lists()
 
 

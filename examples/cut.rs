@@ -30,7 +30,7 @@ fn main() -> Result<(), Refusal> {
     assert_eq!(detector.state(), &before);
     // a state can be read back; words that are not a state are refused
     assert!(ContentDetector::from_state(&before).is_ok());
-    assert_eq!(ContentDetector::from_state(&[0; 27]).err(), Some(Refusal(15)));
+    assert_eq!(ContentDetector::from_state(&[0; 34]).err(), Some(Refusal(15)));
     // settings: a set kernel size of 0 is refused like any other below 3
     for kernel_size in [0, 1, 2, 4] {
         let options = ContentOptions { kernel_size: Some(kernel_size), ..ContentOptions::default() };

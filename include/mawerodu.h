@@ -2,8 +2,8 @@
  *
  * A program hands in the frames of a stream in order, as luma, BGR or HSV bytes, each with a timestamp in microseconds.
  * The library scores how much each frame differs from the frame before and reports the timestamps of the cuts. The
- * content detector compares a score with a fixed threshold, the adaptive detector with the scores around it. A list
- * keeps the cuts at hand while the film runs.
+ * content detector compares a score with a fixed threshold, or by a light plan with one that goes by how bright the
+ * frame is, the adaptive detector with the scores around it. A list keeps the cuts at hand while the film runs.
  *
  * The functions of the library are proved. As long as the caller sees to what is listed below under "Duties of a
  * caller", a call ends, does nothing undefined and touches no memory but its stack and what it is lent, whatever the
@@ -38,8 +38,8 @@
  * Build it: cc film.c $(pkg-config --cflags --libs mawerodu). The library is libstation.a, for x86-64 Linux; it needs
  * nothing but memcpy, memmove and memset.
  *
- * Order of this file: version, types and sizes, numbers, duties, settings, scores, cuts, frames, readers, the list of a
- * sitting, struct mw_memory, and last the layout of the words.
+ * Order of this file: version, types and sizes, numbers, duties, settings, scores, cuts, the light plan, frames,
+ * readers, the list of a sitting, struct mw_memory, and last the layout of the words.
  */
 #ifndef MAWERODU_H
 #define MAWERODU_H
@@ -56,7 +56,7 @@ extern "C" {
 /* ---- Version ---- */
 
 #define MW_VERSION_MAJOR 0
-#define MW_VERSION_MINOR 4
+#define MW_VERSION_MINOR 5
 #define MW_VERSION_PATCH 0
 #define MW_VERSION ((MW_VERSION_MAJOR << 16) | (MW_VERSION_MINOR << 8) | MW_VERSION_PATCH)
 
@@ -66,7 +66,7 @@ uint32_t mw_version(void);
 
 /* ---- Types and sizes ---- */
 
-#define MW_CONTENT_WORDS 27
+#define MW_CONTENT_WORDS 34
 #define MW_ADAPTIVE_WORDS 288
 #define MW_ANSWER_WORDS 13
 
@@ -114,18 +114,20 @@ uint64_t mw_magnitudes(uint32_t width, uint32_t height);
 /* ---- The number that a call returns ----
  *
  * 0, or the number of the first refusal that applies, in this order:
- *   mw_content_new    6, 7, 8, 9, 15
- *   mw_adaptive_new   10, 11, 6, 7, 8, 9
- *   a frame           15, 1, 2, 3, 4, 5, 12, 13, 14
- *   clear             15
- *   mw_list_add       15, 17, 18
- *   mw_list_remove    15, 19
- *   other list calls  15; mw_list_new refuses nothing
+ *   mw_content_new            6, 7, 8, 9, 15
+ *   mw_content_new_with_plan  6, 7, 8, 9, 15, 20, 21, 22
+ *   mw_adaptive_new           10, 11, 6, 7, 8, 9
+ *   a frame                   15, 1, 2, 3, 4, 5, 12, 13, 14
+ *   clear                     15
+ *   mw_luma_median            1, 2, 3
+ *   mw_list_add               15, 17, 18
+ *   mw_list_remove            15, 19
+ *   other list calls          15; mw_list_new refuses nothing
  * A frame or clear that is refused changes nothing: not the state, not the answer, no byte that it is lent. The answer
  * is then still that of an earlier call: do not read it. Only the feed calls, those with a struct mw_memory, empty the
  * answer first: after a refusal it has no cut and no score, and its sums and its count are 0. A list call that is
- * refused changes nothing either: not the list, no stamp, and not the memory for its result. Settings that are refused
- * make a state with the default settings. */
+ * refused changes nothing either: not the list, no stamp, and not the memory for its result. Nor does mw_luma_median:
+ * it leaves the median. Settings that are refused make a state with the default settings, and without a plan. */
 enum mw_number {
     MW_OK = 0,
     MW_TOO_LARGE = 1,        /* width or height over 4,096 */
@@ -142,12 +144,17 @@ enum mw_number {
     MW_STORE_SHORT = 12,     /* store, scratch, magnitudes shorter than the frame needs */
     MW_SCRATCH_SHORT = 13,
     MW_MAGNITUDES_SHORT = 14,
-    MW_BAD_STATE = 15,       /* words that are not a state of this detector; in mw_content_new, not a filter_mode; in a
-                                list call, words and stamps that are not a list */
+    MW_BAD_STATE = 15,       /* words that are not a state of this detector; in mw_content_new and
+                                mw_content_new_with_plan, not a filter_mode; in a list call, words and stamps that are
+                                not a list */
     /* 16 is a line that the session program refuses; no function of this library returns it */
     MW_STAMP_TOO_CLOSE = 17, /* a stamp to add equals one of the list, or is closer to one than min_duration */
     MW_LIST_FULL = 18,       /* a stamp to add, to a list that holds 512 */
-    MW_STAMP_ABSENT = 19     /* a stamp to remove that is not in the list */
+    MW_STAMP_ABSENT = 19,    /* a stamp to remove that is not in the list */
+    MW_PLAN_SHAPE = 20,      /* a row of a plan that has another shape or whose first number exceeds its second, or more
+                                than 16 rows */
+    MW_PLAN_TWICE = 21,      /* a median that two rows of a plan have */
+    MW_PLAN_GAP = 22         /* a median that no row of a plan has */
 };
 
 /* A number in words, for a log. */
@@ -192,6 +199,12 @@ static inline const char *mw_text(uint32_t number)
         return "the list holds 512 stamps";
     case MW_STAMP_ABSENT:
         return "the stamp is not in the list";
+    case MW_PLAN_SHAPE:
+        return "a row of the plan has another shape or starts past its end, or there are more than 16 rows";
+    case MW_PLAN_TWICE:
+        return "two rows of the plan have the same median";
+    case MW_PLAN_GAP:
+        return "a median has no row in the plan";
     default:
         return "unknown number";
     }
@@ -200,20 +213,23 @@ static inline const char *mw_text(uint32_t number)
 /* ---- Duties of a caller ----
  *
  * The proofs assume these, and no call can check them. Memory is the state, the answer, the planes, the store, the
- * scratch and the magnitudes; in a list call it is the list, its stamps and the result (nearest, span or clip).
+ * scratch and the magnitudes; in a list call it is the list, its stamps and the result (nearest, span or clip). The
+ * plan of a settings call, the text that mw_content_plan writes (MW_PLAN_TEXT bytes) and a median are memory too.
  *   - Pointers: none is NULL, even where its length is 0. Each is aligned for its type, and points to a whole struct or
  *     to at least as many elements as the length after it says. Lengths count elements: bytes, int32_t's of magnitudes,
  *     int64_t's of stamps.
  *   - Overlap: no two of state, answer, store, scratch and magnitudes overlap, nor does one of them overlap a plane.
- *     Planes are only read, and may overlap each other. No two of list, stamps and result overlap.
+ *     Planes are only read, and may overlap each other. No two of list, stamps and result overlap. A state
+ *     overlaps neither a plan nor the text of one, and a median does not overlap its plane.
  *   - Others: until the call returns, nobody else writes to any of the memory, planes included, or reads what the call
  *     writes.
  *   - Floating point: results are rounded to nearest, floating-point exceptions are masked, and denormal numbers are
  *     neither flushed to zero (FTZ) nor read as zero (DAZ). A C program starts so, unless gcc or clang link it with
  *     -ffast-math. With FTZ or DAZ results may differ: a weight of 5e-324 beside three of 0 is then refused by 7, and
  *     should be accepted. An exception that is not masked ends a program that has no handler for it.
- *   - Stack: a frame call takes up to 17 KB (content) or 24 KB (adaptive), with edges on or off; a list call takes
- *     under 4 KB. This is measured (of a list call with an older compiler), and not proved.
+ *   - Stack: a frame call takes up to 17 KB (content; 4 KB with edges off and without a light plan) or 23 KB
+ *     (adaptive), mw_luma_median up to 15 KB, any other call of a content detector up to 2 KB, of an adaptive detector
+ *     up to 19 KB, and a list call under 1 KB. This is measured, and not proved.
  *
  * Threads: there is no global data that changes, so calls on different states may run at the same time, each with an
  * answer, a store, a scratch and magnitudes of its own. They may read the same planes. Calls on different lists may run
@@ -222,8 +238,8 @@ static inline const char *mw_text(uint32_t number)
 
 /* ---- Settings ----
  *
- * Each of these makes a fresh state. Only mw_content_new and mw_adaptive_new can refuse; they then make a state with
- * the default settings, and return the number.
+ * Each of these makes a fresh state. Only mw_content_new, mw_content_new_with_plan (see "The light plan") and
+ * mw_adaptive_new can refuse; they then make a state with the default settings, and return the number.
  *
  *   setting           default      range, and what it is
  *   threshold         content 27   any but NaN. The score from which on a frame may be a cut
@@ -320,10 +336,11 @@ uint32_t mw_adaptive_new(struct mw_adaptive *state, double threshold, uint64_t m
 /* ---- Cuts ----
  *
  * The timestamp of a cut is that of the first frame of the new clip. A frame is above if its score is at least the
- * threshold. The seed is the timestamp of the first frame with a score in a stretch (adaptive: of the first frame that
- * is judged after a settings call or clear), less min_duration if initial_cut is on; it stops at -2^63. It stands for
- * the last cut, or for the last frame above, as long as there is none. A timestamp is at least min_duration after
- * another if their difference in whole numbers is; nothing wraps.
+ * threshold; with a light plan, at least the threshold that the plan has for it. The seed is the timestamp of the first
+ * frame with a score in a stretch (adaptive: of the first frame that is judged after a settings call or clear), less
+ * min_duration if initial_cut is on; it stops at -2^63. It stands for the last cut, or for the last frame above, as
+ * long as there is none. A timestamp is at least min_duration after another if their difference in whole numbers is;
+ * nothing wraps.
  *
  * Content, MW_SUPPRESS: a frame above is a cut if it is at least min_duration after the last cut; else it is dropped.
  *
@@ -335,7 +352,7 @@ uint32_t mw_adaptive_new(struct mw_adaptive *state, double threshold, uint64_t m
  *                         min_duration after the frame that started it, or min_duration is 0. The last frame above is
  *                         then the cut. No other frame is a cut or ends the merge; frames above join it.
  * So the cut of a merge has the timestamp of an earlier frame than the one that reports it. A merge that is pending at
- * the end of the film, at a clear or at a change of size is lost: its cut is not reported. If the threshold is over 0,
+ * the end of the film, at a clear or at a change of size is lost: its cut is not reported. If its threshold is over 0,
  * the last frame of a film can be fed once more, with a timestamp at least min_duration after the last frame above: its
  * score is 0, so it is not above and is late, and it ends a merge that is long enough.
  *
@@ -354,6 +371,74 @@ uint32_t mw_adaptive_new(struct mw_adaptive *state, double threshold, uint64_t m
  * until its timestamp is min_duration after the last cut. In Merge within each stretch in which the timestamps of the
  * frames with a score never fall; where they fall, a cut may be nearer to the cut before, or earlier. After a clock was
  * set back, clear. */
+
+/* ---- The light plan ----
+ *
+ * Rooms differ: with less light all differences are smaller, so a dim room needs a lower threshold. A light plan gives
+ * the content detector a threshold for each brightness of a frame. It is a text of rows
+ *
+ *     from,to,threshold
+ *
+ * of whole numbers from 0 to 255, in decimal digits without leading zeros. A line feed follows each row, the last one
+ * too. Nothing else may stand there: no blank, no sign, no quote, no carriage return, no empty row and no heading. A
+ * frame whose luma median is from `from` to `to`, both counted, is above if its score is at least this threshold. That
+ * takes the place of the set threshold in all that is said under "Cuts". There are at most 16 rows, in any order, and
+ * each median from 0 to 255 has to have exactly one. The empty text is no plan: the set threshold stands.
+ *
+ * The luma median of a frame is the value in the middle of its luma plane: that at place n / 2, rounded down and
+ * counted from 0, when the n pixels are sorted. So about half of the pixels are darker. It is 255 for a frame without
+ * pixels. The luma of a BGR or HSV frame is its value. The frame's own median counts and not that of the frame before:
+ * where a bright scene gives way to a dim one, the row of the dim one decides.
+ *
+ * How to write a plan:
+ *   1. Take a film of the room in each light that it has, by day, by night, with and without the lamp, and with all
+ *      that is not a cut: hands, shadows, the noise of the camera.
+ *   2. Look at the median and the score of its frames. A luma plane has its median from mw_luma_median. Of any frame
+ *      that was accepted, width * height = n bytes of luma are the third n bytes of the store:
+ *          mw_luma_median(memory.store + 2 * n, n, width, height, width, &median)
+ *      Expect medians of about 10 to 60 in a dim room and 100 to 200 in a bright one.
+ *   3. Write a row for each light. Its threshold lies above the scores of frames that are not a cut, and below those of
+ *      a new scene. Let rows meet where no light has its median, since the median goes up and down a little from frame
+ *      to frame. One row starts at 0, one ends at 255, and every other one starts right after another ends.
+ * A room whose dim medians lie around 40 and whose bright ones lie around 170:
+ *
+ *     static const uint8_t plan[] = "0,99,8\n100,255,27\n";
+ *     number = mw_content_new_with_plan(&state, MW_LUMA_CONTENT_SETTINGS, plan, sizeof plan - 1);
+ *
+ * What else a plan does, and does not do:
+ *   - The one row 0,255,t is the same as the threshold t without a plan: the same answers and stores, and the same
+ *     states but for the settings that they hold. This is proved, as is that cuts are min_duration apart under any
+ *     plan, where they are without one.
+ *   - The set threshold is still checked (9) and kept in the state, and it is not used.
+ *   - The plan is part of the settings: clear and a change of size keep it, and it is kept in the state's words.
+ *   - The median is counted only where a plan is given, in one pass over the luma plane.
+ *   - The adaptive detector has no plan: its threshold is a ratio to the scores around. */
+
+/* The most bytes of a plan's text, those of 16 rows 255,255,255, and the most rows. A longer text is refused by 20. */
+#define MW_PLAN_TEXT 192
+#define MW_PLAN_ROWS 16
+
+/* Makes a fresh state, as mw_content_new does, with the plan that a text of plan_len bytes says. The text may be any
+ * bytes, and no zero byte ends it. Refused by 6 to 9 and 15 as mw_content_new; then by 20, 21 or 22, each judged of the
+ * whole text: 20 if a row has another shape (a number over 255 and an empty row are another shape too, and so is a last
+ * row without its line feed), a row's first number exceeds its second, or there are more than 16 rows; 21 if two rows
+ * have the same median; 22 if some median from 0 to 255 has no row. A text with two of these faults gives the smaller
+ * number. */
+uint32_t mw_content_new_with_plan(struct mw_content *state, double threshold, uint64_t min_duration, double hue,
+                                  double saturation, double luma, double edges, uint32_t filter_mode,
+                                  uint32_t has_kernel, uint32_t kernel_size, uint32_t initial_cut, const uint8_t *plan,
+                                  size_t plan_len);
+
+/* Writes the text of the plan that a state holds to the start of `text`, and returns its length; the bytes after it
+ * stay. It is the text that the settings call took, row by row. The length is 0 if there is no plan. It refuses
+ * nothing: of words that are not a state it writes nothing, and the length is 0; of words whose plan calls refuse by 15
+ * it writes the rows that they have, 16 at most. No zero byte is written. */
+uint32_t mw_content_plan(const struct mw_content *state, uint8_t text[MW_PLAN_TEXT]);
+
+/* The luma median of a luma frame, in *median: row r starts at byte r * stride, and height * stride bytes are needed,
+ * as in a frame call. Refused by 1, 2 or 3; *median then stays as it was. */
+uint32_t mw_luma_median(const uint8_t *plane, size_t plane_len, uint32_t width, uint32_t height, uint32_t stride,
+                        uint8_t *median);
 
 /* ---- Frames ----
  *
@@ -706,7 +791,7 @@ static inline uint32_t mw_adaptive_feed_hsv(struct mw_adaptive *state, struct mw
  *     2                count
  *
  *   content  adaptive
- *       0        0     version of the layout: 0x4d57434f4e543031 (MWCONT01) or 0x4d57414441503031 (MWADAP01)
+ *       0        0     version of the layout: 0x4d57434f4e543032 (MWCONT02) or 0x4d57414441503031 (MWADAP01)
  *       1        1     threshold
  *       2        2     min_duration
  *       -     3, 4     window_width, min_content_val
@@ -723,6 +808,10 @@ static inline uint32_t mw_adaptive_feed_hsv(struct mw_adaptive *state, struct mw
  *      23        -     1 if a merge may start, since there was a cut; else 0
  *      24        -     1 if a merge is pending, else 0
  *  25, 26        -     has, start of the last merge
+ *      27        -     number of rows of the light plan, 0 if there is none
+ *   28-29        -     the first median of each row, 16 bytes
+ *   30-31        -     the last median of each row, in the same order
+ *   32-33        -     the threshold of each row, in the same order
  *       -   22, 23     number of scores in the window, their running sum
  *       -   24, 25     has, last cut or the seed
  *       -   26, 27     has, last ratio
@@ -730,11 +819,15 @@ static inline uint32_t mw_adaptive_feed_hsv(struct mw_adaptive *state, struct mw
  *       -   30-158     timestamps of the window, the oldest first; places past the number of scores are not used
  *       -  159-287     scores of the window, in the same order
  *
+ * The 16 bytes of a plan are eight to a word, the first one the lowest; those past the number of rows are written as 0,
+ * and are not looked at.
+ *
  * 15 is returned for words that are not a state: another version; a `has`, a 0-or-1 field or filter_mode that is over
- * 1; a window_width, width or height over 2^32 - 1; a kernel_size over 2^32 - 1 whose `has` is 1. And for a state with
- * one of these, which no run of calls makes: settings that would be refused, a width or height over 4,096, more than
- * 2 * window_width + 1 scores in the window, a merge that is pending without a start or a last frame above. What is not
- * a list is said above, under "The list of a sitting". */
+ * 1; a window_width, width, height or number of rows over 2^32 - 1; a kernel_size over 2^32 - 1 whose `has` is 1. And
+ * for a state with one of these, which no run of calls makes: settings that would be refused (a plan too, of more than
+ * 16 rows, by a row whose first median exceeds its last, or by a median with two rows or with none), a width or height
+ * over 4,096, more than 2 * window_width + 1 scores in the window, a merge that is pending without a start or a last
+ * frame above. What is not a list is said above, under "The list of a sitting". */
 
 #ifdef __cplusplus
 }

@@ -14,13 +14,14 @@
 //! }
 //! ```
 //!
-//! [`ContentDetector`] compares each score with a fixed threshold. [`AdaptiveDetector`] compares it with the scores of
-//! the frames around it and reports the cut some frames later. [`CutList`] keeps the cuts at hand while the film runs.
+//! [`ContentDetector`] compares each score with a fixed threshold, or by a light plan with one that goes by how bright
+//! the frame is. [`AdaptiveDetector`] compares it with the scores of the frames around it and reports the cut some
+//! frames later. [`CutList`] keeps the cuts at hand while the film runs.
 //!
 //! A detector and a list own their state and the memory that the library works on, so no call is refused for short
 //! memory. A call that is refused returns a [`Refusal`] and changes nothing: the stream goes on as if the call had not
-//! been made. Different threads may use different detectors and lists at the same time. A call takes up to 24 KB of
-//! stack (measured, and not proved).
+//! been made. Different threads may use different detectors and lists at the same time. A frame call takes up to 24 KB
+//! of stack, and one that makes a detector up to 26 KB (measured of a release build, and not proved).
 //!
 //! No other crate is needed, only the archive `libstation.a`, of the same version up to the patch number (see
 //! [`VERSION`]). With cargo, `build.rs` finds it and has it linked; it says where it looks. With `rustc` alone, hand it
@@ -58,6 +59,36 @@
 //! rounding: the frame differs, or the frame before it (or whether there was one of this size), or the settings for
 //! edges.
 //!
+//! # The light plan
+//!
+//! Rooms differ: with less light all differences are smaller, so a dim room needs a lower threshold. A light plan gives
+//! the content detector a threshold for each brightness of a frame ([`ContentDetector::with_plan`]). It is a text of
+//! rows
+//!
+//! ```text
+//! from,to,threshold
+//! ```
+//!
+//! of whole numbers from 0 to 255, in decimal digits without leading zeros, with a line feed after each row, the last
+//! one too, and nothing else: no blank, no carriage return, no empty row, no heading. A frame whose luma median is from
+//! `from` to `to`, both counted, is above if its score is at least this threshold. There are at most 16 rows, in any
+//! order, and each median from 0 to 255 has to have exactly one. The empty text is no plan.
+//!
+//! The luma median of a frame is the value in the middle of its luma plane, that at place n / 2, rounded down and
+//! counted from 0, when the n pixels are sorted; 255 if there are none. For a BGR or HSV frame it is that of the value
+//! plane. The frame's own median counts and not that of the frame before.
+//!
+//! To write a plan, take a film of the room in each light that it has, and look at the score and the median of its
+//! frames, which a detector has after each: [`Answer::score`] and [`ContentDetector::last_luma_median`]; of a luma
+//! plane alone [`luma_median`] has it. Then write a row for each light, whose threshold lies above the scores of frames
+//! that are not a cut and below those of a new scene. Let rows meet where no light has its median.
+//!
+//! ```text
+//! let mut detector = ContentDetector::with_plan(ContentOptions::luma_only(), "0,99,8\n100,255,27\n")?;
+//! ```
+//!
+//! The one row `0,255,t` is the same as the threshold t without a plan.
+//!
 //! # Frames without a score
 //!
 //! The first frame of a detector has no score, because there is no frame before it. It is never a cut. The same holds
@@ -87,11 +118,13 @@ use std::ops::Range;
 /// of list calls as pointers; every other piece of memory is a pointer and the number of its elements.
 #[allow(missing_docs, clippy::missing_safety_doc)]
 pub mod sys {
-    pub const CONTENT_WORDS: usize = 27;
+    pub const CONTENT_WORDS: usize = 34;
     pub const ADAPTIVE_WORDS: usize = 288;
     pub const ANSWER_WORDS: usize = 13;
     pub const LIST_WORDS: usize = 3;
     pub const LIST_PLACES: usize = 512;
+    pub const PLAN_TEXT: usize = 192;
+    pub const PLAN_ROWS: usize = 16;
 
     /// The state of a content detector.
     pub type ContentState = [u64; CONTENT_WORDS];
@@ -139,6 +172,30 @@ pub mod sys {
             has_kernel: u32,
             kernel_size: u32,
             initial_cut: u32,
+        ) -> u32;
+        pub fn mw_content_new_with_plan(
+            state: *mut ContentState,
+            threshold: f64,
+            min_duration: u64,
+            hue: f64,
+            saturation: f64,
+            luma: f64,
+            edges: f64,
+            filter_mode: u32,
+            has_kernel: u32,
+            kernel_size: u32,
+            initial_cut: u32,
+            plan: *const u8,
+            plan_len: usize,
+        ) -> u32;
+        pub fn mw_content_plan(state: *const ContentState, text: *mut [u8; PLAN_TEXT]) -> u32;
+        pub fn mw_luma_median(
+            plane: *const u8,
+            plane_len: usize,
+            width: u32,
+            height: u32,
+            stride: u32,
+            median: *mut u8,
         ) -> u32;
         pub fn mw_adaptive_default(state: *mut AdaptiveState) -> u32;
         pub fn mw_adaptive_new(
@@ -267,9 +324,9 @@ pub mod sys {
 }
 
 /// The version of this wrapper: major, minor, patch. A library whose major and minor number are these has the functions
-/// that `sys` declares. Each constructor of a detector or a list checks that, and panics if the linked library is
-/// another.
-pub const VERSION: (u32, u32, u32) = (0, 4, 0);
+/// that `sys` declares. Each constructor of a detector or a list checks that, as does [`luma_median`], and panics if
+/// the linked library is another.
+pub const VERSION: (u32, u32, u32) = (0, 5, 0);
 
 /// The version of the library that is linked: major, minor, patch.
 pub fn version() -> (u32, u32, u32) {
@@ -278,7 +335,7 @@ pub fn version() -> (u32, u32, u32) {
     (number >> 16, number >> 8 & 255, number & 255)
 }
 
-/// The number of a refusal, 1 to 15 or 17 to 19; `Display` says what it means. The refused call changed nothing. (16 is
+/// The number of a refusal, 1 to 15 or 17 to 22; `Display` says what it means. The refused call changed nothing. (16 is
 /// a line that the session program refuses, and no call here returns it.)
 #[derive(Clone, Copy, Debug, PartialEq, Eq)]
 pub struct Refusal(pub u32);
@@ -304,6 +361,9 @@ impl fmt::Display for Refusal {
             17 => "the stamp equals one of the list, or is closer to one than min_duration",
             18 => "the list holds 512 stamps",
             19 => "the stamp is not in the list",
+            20 => "a row of the plan has another shape or starts past its end, or there are more than 16 rows",
+            21 => "two rows of the plan have the same median",
+            22 => "a median has no row in the plan",
             _ => "unknown refusal",
         };
         write!(f, "{}: {what}", self.0)
@@ -318,6 +378,19 @@ fn passed(number: u32) -> Result<(), Refusal> {
     } else {
         Err(Refusal(number))
     }
+}
+
+/// The luma median of a luma frame: the value in the middle of its sorted pixels, or 255 if it has none. Row r starts
+/// at byte r * `stride` of `plane`; height * `stride` bytes are needed, the padding of the last row included. Refused
+/// by 1, 2 or 3. A row of a light plan is found by it; of a frame that a detector has taken, of any kind,
+/// [`ContentDetector::last_luma_median`] has it.
+pub fn luma_median(plane: &[u8], width: u32, height: u32, stride: u32) -> Result<u8, Refusal> {
+    fitting();
+    let mut median = 0;
+    // SAFETY: `fitting` checked that the library has this function; pointer and length are those of a slice; the median
+    // is a variable of this function.
+    passed(unsafe { sys::mw_luma_median(plane.as_ptr(), plane.len(), width, height, stride, &mut median) })?;
+    Ok(median)
 }
 
 /// One number for each plane: the components of a frame (0.0 to 255.0), or the weights that they have in the score.
@@ -381,7 +454,7 @@ pub struct Answer {
 }
 
 /// How the content detector keeps cuts `min_duration` apart. A frame is *above* if its score is at or over the
-/// threshold.
+/// threshold, with a light plan over the one that the plan has for it.
 #[derive(Clone, Copy, Debug, PartialEq, Eq)]
 pub enum FilterMode {
     /// A run of frames above that follow each other closely brings a cut at its start, and if it lasts long enough one
@@ -406,10 +479,11 @@ pub enum FilterMode {
 }
 
 /// Settings of the content detector. `ContentOptions::default()` has the defaults, and `ContentOptions::luma_only()`
-/// has what luma frames want.
+/// has what luma frames want. A light plan is given beside them: [`ContentDetector::with_plan`].
 #[derive(Clone, Copy, Debug, PartialEq)]
 pub struct ContentOptions {
-    /// A frame with at least this score is above the threshold. Any number but NaN; 27 by default.
+    /// A frame with at least this score is above the threshold. Any number but NaN; 27 by default. With a light plan
+    /// the threshold of the frame's row stands in its place.
     pub threshold: f64,
     /// The least time from one cut to the next, in microseconds; 1,000,000 by default. The crate's documentation says
     /// where it holds.
@@ -561,12 +635,17 @@ fn answer_of(w: &sys::Answer) -> Answer {
     }
 }
 
-/// Words for a state or a list, once the library is known to have the functions that `sys` declares, and states, lists
-/// and answers of as many words as here: another one would take other arguments, or write past the words. The numbers
-/// of words alone do not tell: they were the same in 0.1.0 and 0.2.0, whose functions differ.
-fn blank<const N: usize>(library: u64) -> [u64; N] {
+/// Panics unless the library has the functions that `sys` declares: another one could take other arguments.
+fn fitting() {
     let (major, minor, _) = version();
     assert_eq!((major, minor), (VERSION.0, VERSION.1), "the linked library has another version than this wrapper");
+}
+
+/// Words for a state or a list, once the library is known to have the functions that `sys` declares, and states, lists
+/// and answers of as many words as here: another one would write past the words. The numbers of words alone do not
+/// tell: they were the same in 0.1.0 and 0.2.0, whose functions differ.
+fn blank<const N: usize>(library: u64) -> [u64; N] {
+    fitting();
     // SAFETY: it takes nothing and returns a number.
     let answer = unsafe { sys::mw_answer_words() };
     let here = (N as u64, sys::ANSWER_WORDS as u64);
@@ -575,10 +654,14 @@ fn blank<const N: usize>(library: u64) -> [u64; N] {
 }
 
 // SAFETY of the calls in a detector: `blank` checked that the library has these functions, and that its states and
-// answers have as many words as here; every other pointer and length are those of a slice or a vector; each lives
-// through the call, and what is written overlaps nothing else and is used by nobody else.
+// answers have as many words as here; every other pointer and length are those of a slice, a vector or an array of the
+// size that the function writes; each lives through the call, and what is written overlaps nothing else and is used by
+// nobody else.
+//
+// $before and $width are words of the state (mawerodu.h, "Layout of the words"): 1 if there is a frame before, and its
+// width, with its height behind that.
 macro_rules! detector {
-    ($name:ident, $state:ident, $words:ident, $default:ident, $luma:ident, $bgr:ident, $hsv:ident, $clear:ident, $has_score:ident, $score:ident, $has_components:ident, $component:ident) => {
+    ($name:ident, $state:ident, $words:ident, $default:ident, $luma:ident, $bgr:ident, $hsv:ident, $clear:ident, $has_score:ident, $score:ident, $has_components:ident, $component:ident, $before:literal, $width:literal) => {
         impl $name {
             /// A detector with the default settings. Luma frames want others: see `process_luma`. It panics if the
             /// linked library has another version than [`VERSION`], the patch number aside; so do the other
@@ -735,6 +818,16 @@ macro_rules! detector {
                     edges: at(3),
                 })
             }
+
+            /// The luma median of the last accepted frame, of whatever kind: for a BGR or HSV frame that of its value
+            /// plane, for one without pixels 255. `None` before the first frame and after `clear`. It is counted anew
+            /// by each call, from the plane that the detector keeps. Whoever writes a light plan wants to know it.
+            pub fn last_luma_median(&self) -> Option<u8> {
+                let [width, height] = [self.state[$width] as u32, self.state[$width + 1] as u32];
+                let n = width as usize * height as usize;
+                let luma = self.lent.store.get(2 * n..3 * n).filter(|_| self.state[$before] == 1)?;
+                luma_median(luma, width, height, width).ok()
+            }
         }
 
         /// Shows the words of the state.
@@ -752,9 +845,9 @@ macro_rules! detector {
     };
 }
 
-/// Reports cuts at frames whose score reaches the threshold, kept `min_duration` apart as [`FilterMode`] says: from one
-/// `clear` or change of size to the next, and with [`FilterMode::Merge`] only if the timestamps of the frames with a
-/// score do not fall in between.
+/// Reports cuts at frames whose score reaches the threshold, by a light plan that of the frame, kept `min_duration`
+/// apart as [`FilterMode`] says: from one `clear` or change of size to the next, and with [`FilterMode::Merge`] only if
+/// the timestamps of the frames with a score do not fall in between.
 #[derive(Clone)]
 pub struct ContentDetector {
     state: sys::ContentState,
@@ -773,15 +866,32 @@ detector!(
     mw_content_has_score,
     mw_content_score,
     mw_content_has_components,
-    mw_content_component
+    mw_content_component,
+    11,
+    19
 );
 
 impl ContentDetector {
     /// A detector with these settings. Refused by 6 to 9.
     pub fn with_options(o: ContentOptions) -> Result<Self, Refusal> {
-        let mut d = Self::new();
+        Self::with_plan(o, "")
+    }
+
+    /// A detector with these settings and a light plan, as a text of rows `from,to,threshold` with a line feed after
+    /// each (see [the crate's documentation](crate#the-light-plan)). The empty text is no plan. The text may be any
+    /// bytes.
+    ///
+    /// ```text
+    /// let plan = std::fs::read("room.plan")?;
+    /// let mut detector = ContentDetector::with_plan(ContentOptions::default(), plan)?;
+    /// ```
+    ///
+    /// Refused by 6 to 9; then by 20 if a row has another shape, a row's first number exceeds its second, or there are
+    /// more than 16 rows; by 21 if two rows have the same median; by 22 if some median has no row.
+    pub fn with_plan(o: ContentOptions, plan: impl AsRef<[u8]>) -> Result<Self, Refusal> {
+        let (mut d, plan) = (Self::new(), plan.as_ref());
         passed(unsafe {
-            sys::mw_content_new(
+            sys::mw_content_new_with_plan(
                 &mut d.state,
                 o.threshold,
                 o.min_duration,
@@ -796,9 +906,18 @@ impl ContentDetector {
                 o.kernel_size.is_some() as u32,
                 o.kernel_size.unwrap_or(0),
                 o.initial_cut as u32,
+                plan.as_ptr(),
+                plan.len(),
             )
         })?;
         Ok(d)
+    }
+
+    /// The text of the light plan that the detector has, as it was given; empty if it has none.
+    pub fn plan(&self) -> String {
+        let mut text = [0; sys::PLAN_TEXT];
+        let length = unsafe { sys::mw_content_plan(&self.state, &mut text) };
+        text[..length as usize].iter().map(|&byte| char::from(byte)).collect()
     }
 }
 
@@ -830,7 +949,9 @@ detector!(
     mw_adaptive_has_score,
     mw_adaptive_score,
     mw_adaptive_has_components,
-    mw_adaptive_component
+    mw_adaptive_component,
+    12,
+    20
 );
 
 impl AdaptiveDetector {

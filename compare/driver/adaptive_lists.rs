@@ -53,7 +53,21 @@ impl Listed for Detector {
         r[0] % 32 == 0 && r[3] % 4 == 0
     }
 
-    lists::calls!();
+    fn clear(&mut self) {
+        self.clear();
+    }
+
+    fn luma(&mut self, frame: LumaFrame<'_>) -> Option<Timestamp> {
+        self.process_luma(frame)
+    }
+
+    fn bgr(&mut self, frame: RgbFrame<'_>) -> Option<Timestamp> {
+        self.process_bgr(frame)
+    }
+
+    fn hsv(&mut self, frame: HsvFrame<'_>) -> Option<Timestamp> {
+        self.process_hsv(frame)
+    }
 
     fn scorer(&self) -> &content::Detector {
         reach::inner(self)

@@ -1,5 +1,6 @@
 //! The station library beside its own rules (rules.rs): sizes and version, settings by numbers, and the order in which a
 //! frame call refuses.
+use crate::plan_rules;
 use crate::rules::{self, ADAPTIVE_DEFAULTS, CONTENT_DEFAULTS, Judged, Own, Settings};
 use crate::station::{ADAPTIVE, CONTENT, Frame, Functions, Planes, Station};
 use crate::table::Row;
@@ -37,6 +38,8 @@ fn sizes() -> Row {
         constant("words of an adaptive state", ADAPTIVE_WORDS as u64, c::mw_adaptive_words());
         constant("words of an answer", rules::ANSWER as u64, c::mw_answer_words());
         constant("words of an answer by the wrapper", rules::ANSWER as u64, ANSWER_WORDS as u64);
+        constant("bytes of a plan's text by the wrapper", plan_rules::TEXT as u64, c::PLAN_TEXT as u64);
+        constant("rows of a plan by the wrapper", plan_rules::MOST as u64, c::PLAN_ROWS as u64);
     }
     let sides = || (0..=40).chain([640, 1080, 1920, 4095, 4096, 4097, 65536, 1 << 31, u32::MAX]);
     for width in sides() {
@@ -152,7 +155,7 @@ fn content_settings(row: &mut Row) {
     let base = CONTENT_DEFAULTS;
     let fresh = defaults(row, &CONTENT, base);
     for filter_mode in MODES {
-        let base = Settings { own: Own::Content { filter_mode }, ..base };
+        let base = Settings { own: Own::content(filter_mode), ..base };
         every_setting(base, |settings| settled(row, &CONTENT, &fresh, settings));
         for (threshold, kernel_size) in [(27.0, 3), (27.0, 4), (f64::NAN, 3), (f64::NAN, 0)] {
             let base = Settings { threshold, has_kernel: 1, kernel_size, ..base };

@@ -1,4 +1,5 @@
 //! Both sides on the same inputs.
+use crate::content_lists::{self, Planned, Seen};
 use crate::generator::{Generator, Random};
 use crate::lists::{self, Listed};
 use crate::sums::Scored;
@@ -6,7 +7,7 @@ use crate::table::Row;
 use crate::{rattle, rust, station};
 use core::time::Duration;
 use mediatime::Timestamp;
-use scenesdetect::{adaptive, content};
+use scenesdetect::adaptive;
 
 const MOST: u32 = 40;
 const KINDS: u32 = 4;
@@ -441,18 +442,64 @@ fn over_count(row: &mut Row, script: &[u8], scored: &[Scored]) {
 
 const OVER_COUNT: &str = "sum over count, by the Rust's components";
 
+/// The plans of lists of content calls: how many rows, how many were refused, and what was seen under longer plans.
+#[derive(Default)]
+struct Plans {
+    none: u64,
+    one: u64,
+    longer: u64,
+    /// By 20, 21 and 22.
+    refused: [u64; 3],
+    seen: Seen,
+}
+
+impl Plans {
+    fn add(&mut self, script: &[u8], list: &Planned) {
+        match (Planned::settled(script).0, content_lists::plan(script).count) {
+            (number @ 20..=22, _) => self.refused[number as usize - 20] += 1,
+            (0, 2..) => self.longer += 1,
+            (0, 1) => self.one += 1,
+            _ => self.none += 1,
+        }
+        self.seen.scored += list.seen.scored;
+        self.seen.cuts += list.seen.cuts;
+        self.seen.otherwise += list.seen.otherwise;
+    }
+
+    fn print(&self) {
+        let Plans { none, one, longer, refused: [shape, twice, missing], seen } = self;
+        println!(
+            "their plans: {none} without, {one} of one row, {longer} longer, refused by 20 {shape}, by 21 {twice}, by 22 {missing}; \
+             under longer ones {} scored frames, {} cuts, {} frames that another threshold of theirs judges otherwise",
+            seen.scored, seen.cuts, seen.otherwise
+        );
+    }
+}
+
 /// Lists of 1 to 24 calls, on the records and through the station library.
-fn content_lists(which: Lists) -> [Row; 3] {
+fn content_lists(which: Lists) -> [Row; 4] {
     let counts = (0..which.content).map(|list| list % 24 + 1);
     println!("{} lists of content calls, {} calls", which.content, counts.clone().sum::<u64>());
     let mut records = Row::new("whole lists of content calls");
     let mut words = Row::new("the same through the station library");
     let mut means = Row::of_sums(OVER_COUNT);
+    let mut filter = Row::of_filter("cuts by the filter, where the Rust gives them");
+    let mut plans = Plans::default();
     let seed = which.seed;
-    let seen = |script: &[u8], _: &content::Detector, scored: &[Scored]| over_count(&mut means, script, scored);
+    let seen = |script: &[u8], list: &Planned, scored: &[Scored]| {
+        over_count(&mut means, script, scored);
+        plans.add(script, list);
+        filter.count(
+            script.len() as u64,
+            || format!("records of 16 bytes {script:?}"),
+            list.seen.beside,
+            list.seen.differ,
+        );
+    };
     whole_lists(&mut records, seed, counts.clone(), written(rattle::content_list), seen);
-    whole_lists::<content::Detector>(&mut words, seed, counts, station::content_list, |_, _, _| ());
-    [records, words, means]
+    plans.print();
+    whole_lists::<Planned>(&mut words, seed, counts, station::content_list, |_, _, _| ());
+    [records, words, means, filter]
 }
 
 /// Calls of a long list of adaptive calls, in which wide windows fill: one list in sixteen is one.

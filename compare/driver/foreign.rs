@@ -2,6 +2,7 @@
 //! readers, beside the rules (rules.rs, pixel.rs).
 use crate::generator::Random;
 use crate::pixel::{self, After};
+use crate::plan_rules::{Plan, Row as PlanRow};
 use crate::rules::{self, ADAPTIVE_DEFAULTS, CONTENT_DEFAULTS, Judged, Layout, Own, Settings};
 use crate::station::{ADAPTIVE, CONTENT, Frame, Functions, Planes, Station};
 use crate::table::Row;
@@ -81,7 +82,7 @@ fn foreign<const N: usize>(
         let changes: Vec<(usize, u64)> = (0..2 + random.next() % 3)
             .map(|_| {
                 // mostly flags and numbers, seldom the stamps and scores of a window; 0 and 1 most often
-                let place = random.next() as usize % if random.next() % 4 == 0 { N } else { N.min(30) };
+                let place = random.next() as usize % if random.next() % 4 == 0 { N } else { N.min(34) };
                 let word = if random.next() % 2 == 0 { random.next() % 2 } else { pick(random) };
                 (place, word)
             })
@@ -195,7 +196,10 @@ fn read<const N: usize>(
     found.push((given.has_components(functions), 0));
     let places = (0..5).chain([u32::MAX]);
     found.extend(places.map(|place| (place, bits(given.component(functions, place)))));
-    row.compare(0, input, expected, found);
+    row.compare(0, &input, expected, found);
+    if let Some(text) = given.plan_text(functions) {
+        row.compare(0, input, layout.plan_text(words), text);
+    }
 }
 
 /// A state after luma frames of one colour, each of this side, by its stamp.
@@ -216,7 +220,8 @@ fn after<const N: usize>(
     station
 }
 
-/// Fresh; after a first frame; in a merge; in Suppress after a cut, with edges; after frames of another size.
+/// Fresh; after a first frame; in a merge; in Suppress after a cut, with edges; after frames of another size; in a merge
+/// under plans of two and of sixteen rows.
 fn content_states() -> Vec<Station<{ rules::CONTENT.words }>> {
     let merge = Settings { weights: [0.0, 0.0, 1.0, 0.0], min_duration: 1000, ..CONTENT_DEFAULTS };
     let suppress = Settings {
@@ -225,15 +230,25 @@ fn content_states() -> Vec<Station<{ rules::CONTENT.words }>> {
         has_kernel: 1,
         kernel_size: 5,
         initial_cut: 0,
-        own: Own::Content { filter_mode: 1 },
+        own: Own::content(1),
         ..CONTENT_DEFAULTS
     };
+    // a frame of luma 200 after one of 100 scores 100
+    let planned = |rows: &[PlanRow]| Settings {
+        own: Own::Content { filter_mode: 0, plan: Plan::of(rows), by_text: true },
+        ..merge
+    };
+    let two = [PlanRow::new(200, 255, 100), PlanRow::new(0, 199, 3)];
+    let sixteen: Vec<PlanRow> = (0..16).map(|i| PlanRow::new(16 * i, 16 * i + 15, 8 * i + 4)).collect();
+    let held = [(0, 0), (200, 1000), (0, 1200), (100, 1900), (100, 2500)];
     vec![
         after(&CONTENT, CONTENT_DEFAULTS, 1, []),
         after(&CONTENT, CONTENT_DEFAULTS, 1, [(9, 0)]),
-        after(&CONTENT, merge, 1, [(0, 0), (200, 1000), (0, 1200), (100, 1900), (100, 2500)]),
+        after(&CONTENT, merge, 1, held),
         after(&CONTENT, suppress, 1, [(0, -1), (5, 0), (9, 1_000_000), (9, 1_500_000)]),
         after(&CONTENT, merge, 3, [(0, 0), (200, 1000), (0, 1200)]),
+        after(&CONTENT, planned(&two), 1, held),
+        after(&CONTENT, planned(&sixteen), 1, held),
     ]
 }
 

@@ -1,6 +1,6 @@
 //! Lists of content or adaptive calls from bytes, as README.md states them, run by the oracle. The Rust takes no store,
-//! scratch or magnitudes and no state record: the refusals of those, and of settings that it takes, are answered here
-//! by number.
+//! scratch or magnitudes, no state record and no light plan: the refusals of those, and of settings that it takes, are
+//! answered here by number.
 use crate::generator::Generator;
 use crate::rust;
 use crate::sums::{Scored, Sums};
@@ -30,28 +30,6 @@ pub trait Listed: Sized {
     /// What is shown of its state besides the scorer's.
     fn show(&self, out: &mut Output);
 }
-
-/// The calls, which both detectors have under the same names.
-macro_rules! calls {
-    () => {
-        fn clear(&mut self) {
-            self.clear();
-        }
-
-        fn luma(&mut self, frame: LumaFrame<'_>) -> Option<Timestamp> {
-            self.process_luma(frame)
-        }
-
-        fn bgr(&mut self, frame: RgbFrame<'_>) -> Option<Timestamp> {
-            self.process_bgr(frame)
-        }
-
-        fn hsv(&mut self, frame: HsvFrame<'_>) -> Option<Timestamp> {
-            self.process_hsv(frame)
-        }
-    };
-}
-pub(crate) use calls;
 
 /// The results of the calls, as bytes.
 #[derive(Default)]

@@ -11,6 +11,7 @@ mod compare;
 mod content_lists;
 #[cfg(rattle)]
 mod edges;
+mod filter_rules;
 #[cfg(rattle)]
 mod foreign;
 mod generator;
@@ -22,10 +23,16 @@ mod operations;
 #[cfg(rattle)]
 mod pixel;
 #[cfg(rattle)]
+mod plan_medians;
+mod plan_rules;
+#[cfg(rattle)]
+mod plan_texts;
+#[cfg(rattle)]
 mod rattle;
 mod replay;
 mod replay_filter;
 mod replay_list;
+mod replay_plan;
 #[cfg(rattle)]
 mod rules;
 mod rust;
@@ -51,6 +58,8 @@ mod time_film;
 mod time_lists;
 #[cfg(rattle)]
 mod time_opencv;
+#[cfg(rattle)]
+mod time_plans;
 #[cfg(rattle)]
 mod time_rates;
 #[cfg(rattle)]
@@ -132,6 +141,8 @@ fn rows(root: &Path, words: &[String]) -> Vec<table::Row> {
     rows.extend(wrapper::rows(which));
     rows.extend(border::rows());
     rows.extend(foreign::rows(which.seed));
+    rows.extend(plan_texts::rows(which.seed, number(words, "--count", 300_000)));
+    rows.push(plan_medians::row());
     rows.extend(sitting_lists::rows(which.seed, number(words, "--count", 120_000)));
     rows.extend(edges::rows());
     rows.extend(sessions::rows(root));

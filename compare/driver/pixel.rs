@@ -1,7 +1,7 @@
 //! A luma frame of one pixel on the words of any state that calls accept, also of one that no run reaches: the words of
 //! state and answer after it, and the store. For states that the Rust can't be handed; it follows docs/RULES.md and the
-//! two functions of the Rust that are named there, `filter_merge` and `push_and_check`, and is not made from the proved
-//! code.
+//! Rust's `push_and_check` that it names, with the filter of filter_rules.rs, and is not made from the proved code.
+use crate::filter_rules::{Filter, past};
 use crate::rules::{self, Layout, Own, Settings};
 
 /// An optional value, as two words.
@@ -11,17 +11,6 @@ fn option(words: &[u64], place: usize) -> Option<u64> {
 
 fn put(words: &mut [u64], place: usize, value: Option<u64>) {
     (words[place], words[place + 1]) = (value.is_some() as u64, value.unwrap_or(0));
-}
-
-/// Whether a stamp is at least so long past another.
-fn past(stamp: i64, earlier: i64, least: u64) -> bool {
-    stamp as i128 - earlier as i128 >= least as i128
-}
-
-/// The stamp that the distance is counted from before there is a cut.
-fn seed(settings: &Settings, stamp: i64) -> i64 {
-    let back = if settings.initial_cut != 0 { settings.min_duration } else { 0 };
-    (stamp as i128 - back as i128).max(i64::MIN as i128) as i64
 }
 
 /// What a call leaves: the words of the state and of the answer, and the store.
@@ -62,7 +51,10 @@ pub fn luma(layout: &Layout, words: &[u64], luma: u8, stamp: i64, store: [u8; 4]
     }
     let scored = scored.then_some(score);
     let cut = match settings.own {
-        Own::Content { filter_mode } => filtered(&settings, filter_mode, words, &mut state, scored, stamp),
+        Own::Content { plan, .. } => {
+            let threshold = plan.threshold(settings.threshold, luma);
+            filtered(&settings, words, &mut state, scored.map(|score| score >= threshold), stamp)
+        }
         Own::Adaptive { window_width, min_content_val } => {
             pushed(&settings, window_width as usize, min_content_val, words, &mut state, scored, stamp)
         }
@@ -72,49 +64,18 @@ pub fn luma(layout: &Layout, words: &[u64], luma: u8, stamp: i64, store: [u8; 4]
 }
 
 /// The filter of the content detector: words 21 to 26. The first frame of a stretch leaves it as at the start.
-fn filtered(
-    settings: &Settings,
-    mode: u32,
-    words: &[u64],
-    state: &mut [u64],
-    score: Option<f64>,
-    stamp: i64,
-) -> Option<i64> {
-    let above = score? >= settings.threshold;
-    let least = settings.min_duration;
-    let mut last = option(words, 21).map_or(seed(settings, stamp), |word| word as i64);
-    let far = past(stamp, last, least);
-    let [mut enabled, mut triggered] = [words[23], words[24]];
-    let mut start = option(words, 25);
-    let mut cut = None;
-    if mode == 1 {
-        // Suppress
-        if above && far {
-            last = stamp;
-            cut = Some(stamp);
-        }
-    } else {
-        if above {
-            last = stamp;
-        }
-        if triggered == 1 {
-            let begun = start.expect("a merge that is triggered has a start") as i64;
-            let spans = least == 0 || past(last, begun, least);
-            if far && !above && spans {
-                triggered = 0;
-                cut = Some(last);
-            }
-        } else if above && far {
-            enabled = 1;
-            cut = Some(stamp);
-        } else if above && enabled == 1 {
-            triggered = 1;
-            start = Some(stamp as u64);
-        }
-    }
-    put(state, 21, Some(last as u64));
-    (state[23], state[24]) = (enabled, triggered);
-    put(state, 25, start);
+fn filtered(settings: &Settings, words: &[u64], state: &mut [u64], above: Option<bool>, stamp: i64) -> Option<i64> {
+    let above = above?;
+    let mut filter = Filter {
+        last: option(words, 21).map(|word| word as i64),
+        enabled: words[23] == 1,
+        triggered: words[24] == 1,
+        start: option(words, 25).map(|word| word as i64),
+    };
+    let cut = filter.step(settings.filter(), above, stamp);
+    put(state, 21, filter.last.map(|stamp| stamp as u64));
+    (state[23], state[24]) = (filter.enabled as u64, filter.triggered as u64);
+    put(state, 25, filter.start.map(|stamp| stamp as u64));
     cut
 }
 
@@ -159,7 +120,7 @@ fn pushed(
         let quotient = target / average;
         if quotient < 255.0 { quotient } else { 255.0 }
     };
-    let last = option(words, 24).map_or(seed(settings, target_stamp), |word| word as i64);
+    let last = option(words, 24).map_or(settings.filter().seed(target_stamp), |word| word as i64);
     let cut = ratio >= settings.threshold && target >= least && past(target_stamp, last, settings.min_duration);
     put(state, 24, Some(if cut { target_stamp } else { last } as u64));
     put(state, 26, Some(ratio.to_bits()));

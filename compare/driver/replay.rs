@@ -1,24 +1,26 @@
 //! What the replay programs and `marks` must print, worked out by the oracle, or by the rules where the Rust has no counterpart:
 //! their stored `stdout`. README.md states the batches in words.
+use crate::content_lists::Planned;
 use crate::generator::{Digest, Generator};
 use crate::lists::{self, Listed};
 use crate::{adaptive_lists, rust};
 use mediatime::Timestamp;
+use scenesdetect::adaptive;
 use scenesdetect::content::{Components, LUMA_ONLY_WEIGHTS};
 use scenesdetect::frame::LumaFrame;
-use scenesdetect::{adaptive, content};
 use std::fmt::Write;
 
 /// The programs by name, with what each prints.
-pub fn outputs() -> [(&'static str, String); 8] {
+pub fn outputs() -> [(&'static str, String); 9] {
     [
         ("replay_hsv", pixels()),
         ("replay_planes", planes()),
         ("replay_edges", edges()),
         ("replay_filter", crate::replay_filter::lines()),
-        ("replay_content", batches::<content::Detector>(|c| c % 24 + 1)),
+        ("replay_content", batches::<Planned>(|c| c % 24 + 1)),
         ("replay_adaptive", adaptive()),
         ("replay_list", crate::replay_list::lines()),
+        ("replay_plan", crate::replay_plan::lines()),
         ("marks", marks_table()),
     ]
 }

@@ -1,5 +1,7 @@
 //! The rules of the station library that the Rust has no counterpart for: settings by numbers, the words of a state, the
 //! numbers of refused calls. It follows docs/RULES.md and include/mawerodu.h, and is not made from the proved code.
+use crate::filter_rules::Rules;
+use crate::plan_rules::{self, Plan};
 use crate::station::{Frame, Planes};
 
 /// Settings as a settings call gets them. A flag is off for 0 and on for any other number.
@@ -14,10 +16,11 @@ pub struct Settings {
     pub own: Own,
 }
 
-/// What one detector alone has among its settings.
+/// What one detector alone has among its settings. A plan is given by its text, or by the empty text, where `by_text` says
+/// so; else by the settings call without one.
 #[derive(Clone, Copy, Debug)]
 pub enum Own {
-    Content { filter_mode: u32 },
+    Content { filter_mode: u32, plan: Plan, by_text: bool },
     Adaptive { window_width: u32, min_content_val: f64 },
 }
 
@@ -28,18 +31,25 @@ pub const CONTENT_DEFAULTS: Settings = Settings {
     has_kernel: 0,
     kernel_size: 0,
     initial_cut: 1,
-    own: Own::Content { filter_mode: 0 },
+    own: Own::content(0),
 };
 
 pub const ADAPTIVE_DEFAULTS: Settings =
     Settings { threshold: 3.0, own: Own::Adaptive { window_width: 2, min_content_val: 15.0 }, ..CONTENT_DEFAULTS };
 
+impl Own {
+    /// A filter mode, and no plan.
+    pub const fn content(filter_mode: u32) -> Self {
+        Own::Content { filter_mode, plan: Plan::NONE, by_text: false }
+    }
+}
+
 impl Settings {
-    /// The number that they are refused by: 10, 11, 6 to 9, and 15 for a mode that is neither; or 0.
+    /// The number that they are refused by: 10, 11, 6 to 9, 15 for a mode that is neither, and 20 to 22 for the plan; or 0.
     pub fn refusal(&self) -> u32 {
-        let (window, least, mode) = match self.own {
-            Own::Content { filter_mode } => (1, 0.0, filter_mode),
-            Own::Adaptive { window_width, min_content_val } => (window_width, min_content_val, 0),
+        let (window, least, mode, plan) = match self.own {
+            Own::Content { filter_mode, plan, .. } => (1, 0.0, filter_mode, plan.refusal()),
+            Own::Adaptive { window_width, min_content_val } => (window_width, min_content_val, 0, 0),
         };
         let k = self.kernel_size;
         first([
@@ -50,7 +60,14 @@ impl Settings {
             (self.has_kernel != 0 && (k < 3 || k % 2 == 0), 8),
             (self.threshold.is_nan() || least.is_nan(), 9),
             (mode > 1, 15),
+            (plan != 0, plan),
         ])
+    }
+
+    /// What a filter reads of them. The adaptive detector has the distance alone.
+    pub fn filter(&self) -> Rules {
+        let suppress = matches!(self.own, Own::Content { filter_mode: 1, .. });
+        Rules { suppress, least: self.min_duration, initial_cut: self.initial_cut != 0 }
     }
 
     /// The words of a fresh state with them, frames of this size having been taken before a `clear`.
@@ -62,7 +79,10 @@ impl Settings {
         let has_kernel = (self.has_kernel != 0) as u64;
         let kernel = [has_kernel, has_kernel * self.kernel_size as u64, (self.initial_cut != 0) as u64];
         let settings = match self.own {
-            Own::Content { filter_mode } => [&shared[..], &weights, &[filter_mode as u64], &kernel].concat(),
+            Own::Content { filter_mode, plan, .. } => {
+                words[CONTENT_PLAN..].copy_from_slice(&plan.words());
+                [&shared[..], &weights, &[filter_mode as u64], &kernel].concat()
+            }
             Own::Adaptive { window_width, min_content_val } => {
                 [&shared[..], &[window_width as u64, min_content_val.to_bits()], &weights, &kernel].concat()
             }
@@ -101,12 +121,15 @@ pub struct Layout {
     doubles: fn(usize) -> bool,
 }
 
+/// The first word of a content state's plan: the count. The arrays follow.
+pub const CONTENT_PLAN: usize = 27;
+
 pub const CONTENT: Layout = Layout {
-    version: 0x4d57_434f_4e54_3031,
-    words: 27,
+    version: 0x4d57_434f_4e54_3032,
+    words: 34,
     stream: 11,
     flags: &[7, 8, 10, 11, 12, 14, 21, 23, 24, 25],
-    halves: &[19, 20],
+    halves: &[19, 20, CONTENT_PLAN],
     doubles: |place| matches!(place, 13 | 15..=18),
 };
 
@@ -142,7 +165,8 @@ impl Layout {
     pub fn settings(&self, words: &[u64]) -> Settings {
         let double = |place: usize| f64::from_bits(words[place]);
         let (weights, own) = if self.words == CONTENT.words {
-            (3, Own::Content { filter_mode: words[7] as u32 })
+            let plan = Plan::of_words(&words[CONTENT_PLAN..]);
+            (3, Own::Content { filter_mode: words[7] as u32, plan, by_text: true })
         } else {
             (5, Own::Adaptive { window_width: words[3] as u32, min_content_val: double(4) })
         };
@@ -155,6 +179,15 @@ impl Layout {
             kernel_size: words[kernel + 1] as u32,
             initial_cut: words[kernel + 2] as u32,
             own,
+        }
+    }
+
+    /// The text of the plan that the words hold. Of words that are not a record nothing is shown, of a bad record the rows
+    /// that its arrays have.
+    pub fn plan_text(&self, words: &[u64]) -> Vec<u8> {
+        match self.settings(words).own {
+            Own::Content { plan, .. } if self.judged(words) != Judged::NoRecord => plan_rules::text(plan.rows()),
+            _ => Vec::new(),
         }
     }
 

@@ -1,8 +1,10 @@
 //! The station library as a station holds it: its C functions, as rust/lib.rs declares them, on words and lent memory.
 //! Whole lists of calls are run through them.
+use crate::adaptive_lists;
+use crate::content_lists::{self, Planned};
 use crate::lists::{self, Film, Listed, Output};
-use crate::rules::{Own, Settings};
-use crate::{adaptive_lists, content_lists};
+use crate::plan_rules::{self, Plan};
+use crate::rules::{self, Own, Settings};
 use mawerodu::sys::{self as c, ADAPTIVE_WORDS, ANSWER_WORDS, CONTENT_WORDS};
 use scenesdetect::adaptive;
 use scenesdetect::content::{self, Components, FilterMode};
@@ -59,6 +61,8 @@ pub struct Functions<const N: usize> {
     /// The score, and what the adaptive detector has besides: the ratio and the target.
     readers: &'static [Reader<N>],
     components: (unsafe extern "C" fn(*const [u64; N]) -> u32, unsafe extern "C" fn(*const [u64; N], u32) -> f64),
+    /// The reader of the plan's text, which the content detector has.
+    plan: Option<unsafe fn(*const [u64; N], *mut u8) -> u32>,
     /// The words of the settings; those of the stream follow, width and height the last of them.
     options: usize,
 }
@@ -72,6 +76,7 @@ pub const CONTENT: Functions<CONTENT_WORDS> = Functions {
     clear: c::mw_content_clear,
     readers: &[(c::mw_content_has_score, c::mw_content_score)],
     components: (c::mw_content_has_components, c::mw_content_component),
+    plan: Some(content_plan),
     options: 11,
 };
 
@@ -88,11 +93,17 @@ pub const ADAPTIVE: Functions<ADAPTIVE_WORDS> = Functions {
         (c::mw_adaptive_has_target, c::mw_adaptive_target),
     ],
     components: (c::mw_adaptive_has_components, c::mw_adaptive_component),
+    plan: None,
     options: 12,
 };
 
+/// By the call that takes a plan's text, or by the one without where the settings say so: then there is no plan.
 unsafe fn content_new(state: *mut c::ContentState, s: &Settings) -> u32 {
-    let Own::Content { filter_mode } = s.own else { panic!("settings of the adaptive detector") };
+    let Own::Content { filter_mode, plan, by_text } = s.own else { panic!("settings of the adaptive detector") };
+    if by_text {
+        return unsafe { content_new_with_plan(state, s, &plan.text()) };
+    }
+    assert!(!plan.is_given());
     let [hue, saturation, luma, edges] = s.weights;
     unsafe {
         c::mw_content_new(
@@ -109,6 +120,42 @@ unsafe fn content_new(state: *mut c::ContentState, s: &Settings) -> u32 {
             s.initial_cut,
         )
     }
+}
+
+/// With this text, and not with the plan of the settings.
+unsafe fn content_new_with_plan(state: *mut c::ContentState, s: &Settings, text: &[u8]) -> u32 {
+    let Own::Content { filter_mode, .. } = s.own else { panic!("settings of the adaptive detector") };
+    let [hue, saturation, luma, edges] = s.weights;
+    unsafe {
+        c::mw_content_new_with_plan(
+            state,
+            s.threshold,
+            s.min_duration,
+            hue,
+            saturation,
+            luma,
+            edges,
+            filter_mode,
+            s.has_kernel,
+            s.kernel_size,
+            s.initial_cut,
+            text.as_ptr(),
+            text.len(),
+        )
+    }
+}
+
+unsafe fn content_plan(state: *const c::ContentState, text: *mut u8) -> u32 {
+    unsafe { c::mw_content_plan(state, text.cast()) }
+}
+
+/// The number of a frame's luma median, and the median that is written: a byte that held 77 before.
+pub fn luma_median(plane: &[u8], width: u32, height: u32, stride: u32) -> (u32, [u8; 3]) {
+    let mut median = [77; 3];
+    // SAFETY: the address and the length are those of a slice, and the median lies between guards.
+    let number =
+        unsafe { c::mw_luma_median(plane.as_ptr(), plane.len(), width, height, stride, median[1..].as_mut_ptr()) };
+    (number, median)
 }
 
 unsafe fn adaptive_new(state: *mut c::AdaptiveState, s: &Settings) -> u32 {
@@ -238,6 +285,16 @@ impl<const N: usize> Station<N> {
         unsafe { (functions.new)(self.state_at(), settings) }
     }
 
+    /// The text of the plan, by the library's reader. A byte that is written behind it is put out too.
+    pub fn plan_text(&self, functions: &Functions<N>) -> Option<Vec<u8>> {
+        const BLANK: u8 = 0x51;
+        let mut text = vec![BLANK; plan_rules::TEXT + 8];
+        let length = unsafe { functions.plan?(self.state_seen(), text.as_mut_ptr()) } as usize;
+        let end = text.iter().rposition(|&byte| byte != BLANK).map_or(0, |last| last + 1);
+        text.truncate(length.max(end));
+        Some(text)
+    }
+
     pub fn clear(&mut self, functions: &Functions<N>) -> u32 {
         unsafe { (functions.clear)(self.state_at()) }
     }
@@ -348,18 +405,29 @@ impl<const N: usize> Station<N> {
     }
 
     /// The same with a state that is refused: another version, a NaN threshold, a side of 4,097, a flag of 2, a kernel
-    /// that is set to a size beyond 32 bits.
+    /// that is set to a size beyond 32 bits; of a content state also a plan of 17 rows, one without the median 255, and a
+    /// count beyond 32 bits.
     fn broken(&self, functions: &Functions<N>, how: u8) -> Self {
         let mut bad = self.clone();
         let words = bad.words_mut();
-        match how % 5 {
+        match how % if functions.plan.is_some() { 8 } else { 5 } {
             0 => words[0] += 1,
             1 => words[1] = f64::NAN.to_bits(),
             2 => words[functions.options + 8] = 4097,
             3 => words[functions.options] = 2,
-            _ => (words[functions.options - 3], words[functions.options - 2]) = (1, 1 << 32),
+            4 => (words[functions.options - 3], words[functions.options - 2]) = (1, 1 << 32),
+            5 => words[rules::CONTENT_PLAN] = 17,
+            6 => words[rules::CONTENT_PLAN..].copy_from_slice(&Plan::of(&[plan_rules::Row::new(0, 254, 0)]).words()),
+            _ => words[rules::CONTENT_PLAN] += 1 << 32,
         }
         bad
+    }
+}
+
+impl Station<CONTENT_WORDS> {
+    /// A settings call with this text in place of the plan of the settings.
+    pub fn settle_by_text(&mut self, settings: &Settings, text: &[u8]) -> u32 {
+        unsafe { content_new_with_plan(self.state_at(), settings, text) }
     }
 }
 
@@ -389,8 +457,10 @@ fn settings(
     }
 }
 
-pub fn content_settings(o: &content::Options, r: &[u8]) -> Settings {
-    let own = Own::Content { filter_mode: matches!(o.filter_mode(), FilterMode::Suppress) as u32 };
+/// Where there is no plan, one list in two has the empty text.
+pub fn content_settings(o: &content::Options, plan: Plan, r: &[u8]) -> Settings {
+    let filter_mode = matches!(o.filter_mode(), FilterMode::Suppress) as u32;
+    let own = Own::Content { filter_mode, plan, by_text: plan.is_given() || r[15] % 2 == 1 };
     settings(r, o.threshold(), o.min_duration(), o.weights(), o.kernel_size(), o.initial_cut(), own)
 }
 
@@ -443,7 +513,8 @@ fn run<D: Listed, const N: usize>(functions: &Functions<N>, settings: Settings, 
 }
 
 pub fn content_list(script: &[u8]) -> Vec<u8> {
-    run::<content::Detector, _>(&CONTENT, content_settings(&content_lists::options(script), script), script)
+    let settings = content_settings(&content_lists::options(script), content_lists::plan(script), script);
+    run::<Planned, _>(&CONTENT, settings, script)
 }
 
 pub fn adaptive_list(script: &[u8]) -> Vec<u8> {

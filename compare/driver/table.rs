@@ -28,6 +28,22 @@ impl Row {
         Self { held: "by the sums", ..Self::new(name) }
     }
 
+    /// A row of the filter that the lists have of their own, beside what the Rust itself gives.
+    #[cfg(rattle)]
+    pub fn of_filter(name: &'static str) -> Self {
+        Self { held: "the filter of the lists", ..Self::new(name) }
+    }
+
+    /// Counts so many comparisons of one input, of which these differ.
+    #[cfg(rattle)]
+    pub fn count(&mut self, size: u64, input: impl Fn() -> String, compared: u64, differ: u64) {
+        self.compared += compared;
+        self.differ += differ;
+        if differ > 0 && self.smallest.as_ref().is_none_or(|(least, _)| size < *least) {
+            self.smallest = Some((size, format!("{}: {differ} cuts", input())));
+        }
+    }
+
     #[cfg(rattle)]
     pub fn differ(&self) -> u64 {
         self.differ

@@ -2,7 +2,7 @@
 //! pictures. This file has the clock, the tables of nanoseconds per pixel, and the order of what is printed.
 use crate::time_film::Film;
 use crate::time_opencv::{OpenCv, Times};
-use crate::{time_calls, time_lists, time_rates, time_stack, time_stages, time_threads};
+use crate::{time_calls, time_lists, time_plans, time_rates, time_stack, time_stages, time_threads};
 use std::path::Path;
 
 /// Calls that count.
@@ -101,6 +101,7 @@ impl<'a> Table<'a> {
 fn tables(opencv: Option<&OpenCv>, film: &Film) {
     let times = opencv.map(|opencv| opencv.times(film));
     time_calls::print(film, times.as_ref());
+    time_plans::print(film);
     if (film.width, film.height) == STAGES {
         time_stages::print(film, times.as_ref());
     }

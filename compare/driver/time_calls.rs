@@ -1,5 +1,6 @@
 //! Whole frame calls, timed: through the station library, with memory that was written before; by a detector of the
 //! Rust, on its scalar path; and by OpenCV.
+use crate::plan_rules::Plan;
 use crate::rattle;
 use crate::rules::Settings;
 use crate::station::{self, ADAPTIVE, CONTENT, Functions, Station};
@@ -45,7 +46,12 @@ fn adaptive_options(edges: bool) -> adaptive::Options {
 
 /// A content detector for frames as the film's. Where k is not given, it is by the frame's size.
 pub fn content_detector(film: &Film, edges: bool, k: Option<u32>) -> Detector<CONTENT_WORDS> {
-    Detector::new(film, CONTENT, &station::content_settings(&content_options(edges, k), &[0; 16]))
+    Detector::new(film, CONTENT, &station::content_settings(&content_options(edges, k), Plan::NONE, &[0; 16]))
+}
+
+/// The same under a light plan.
+pub fn planned_detector(film: &Film, edges: bool, plan: Plan) -> Detector<CONTENT_WORDS> {
+    Detector::new(film, CONTENT, &station::content_settings(&content_options(edges, None), plan, &[0; 16]))
 }
 
 pub fn adaptive_detector(film: &Film, edges: bool) -> Detector<ADAPTIVE_WORDS> {

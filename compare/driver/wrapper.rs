@@ -1,12 +1,14 @@
 //! The Rust wrapper (rust/lib.rs) beside the oracle: lists of calls through its safe methods. It owns the state and the
 //! memory that is lent, so what a list breaks of these is not broken here.
 use crate::compare::{self, Lists};
+use crate::content_lists::{self, Planned};
 use crate::generator::Random;
 use crate::lists::{self, Film, Listed};
+use crate::plan_rules;
 use crate::station::{Planes, frame_of};
 use crate::sums::Sums;
 use crate::table::Row;
-use crate::{adaptive_lists, content_lists, rust};
+use crate::{adaptive_lists, rust};
 use mawerodu::{AdaptiveDetector, AdaptiveOptions, Answer, ContentDetector, ContentOptions, FilterMode, Refusal};
 use mediatime::Timestamp;
 use scenesdetect::content::reach;
@@ -27,11 +29,24 @@ trait Wrapped: Sized {
     fn reads_back(&self) -> bool;
 }
 
-/// Score, components, ratio and target, by their bits.
-type Shown = [Option<Vec<u64>>; 4];
+/// Score, components, ratio and target, by their bits; the luma median of the last frame; the plan's text.
+type Shown = [Option<Vec<u64>>; 6];
 
 fn one(x: Option<f64>) -> Option<Vec<u64>> {
     x.map(|x| vec![x.to_bits()])
+}
+
+fn median(luma: Option<u8>) -> Option<Vec<u64>> {
+    luma.map(|median| vec![median as u64])
+}
+
+/// The same by the luma plane that the oracle's scorer holds.
+fn oracle_median(scorer: &content::Detector) -> Option<Vec<u64>> {
+    median(reach::held(scorer).map(|held| plan_rules::median(&held.value)))
+}
+
+fn text(plan: &[u8]) -> Option<Vec<u64>> {
+    Some(plan.iter().map(|&byte| byte as u64).collect())
 }
 
 fn four(c: mawerodu::Components) -> Vec<u64> {
@@ -73,11 +88,12 @@ macro_rules! wrapped {
 }
 
 impl Wrapped for ContentDetector {
-    type Oracle = content::Detector;
+    type Oracle = Planned;
 
+    /// A plan goes by its text, and where there is none, in one list of two, by the empty text.
     fn settled(script: &[u8]) -> Result<Self, Refusal> {
-        let o = content_lists::options(script);
-        ContentDetector::with_options(ContentOptions {
+        let (o, plan) = (content_lists::options(script), content_lists::plan(script));
+        let options = ContentOptions {
             threshold: o.threshold(),
             min_duration: o.min_duration().as_micros() as u64,
             weights: weights(o.weights()),
@@ -87,17 +103,26 @@ impl Wrapped for ContentDetector {
             },
             kernel_size: o.kernel_size(),
             initial_cut: o.initial_cut(),
-        })
+        };
+        if plan.is_given() || script[15] % 2 == 1 {
+            return ContentDetector::with_plan(options, plan.text());
+        }
+        ContentDetector::with_options(options)
     }
 
     wrapped!();
 
     fn shown(&self) -> Shown {
-        [one(self.last_score()), self.last_components().map(four), None, None]
+        let components = self.last_components().map(four);
+        let plan = text(self.plan().as_bytes());
+        [one(self.last_score()), components, None, None, median(self.last_luma_median()), plan]
     }
 
-    fn oracle_shown(oracle: &content::Detector) -> Shown {
-        [one(oracle.last_score()), oracle.last_components().map(oracle_four), None, None]
+    fn oracle_shown(oracle: &Planned) -> Shown {
+        let scorer = oracle.scorer();
+        let components = scorer.last_components().map(oracle_four);
+        let plan = text(&oracle.plan().text());
+        [one(scorer.last_score()), components, None, None, oracle_median(scorer), plan]
     }
 }
 
@@ -125,6 +150,8 @@ impl Wrapped for AdaptiveDetector {
             self.last_components().map(four),
             one(self.last_adaptive_ratio()),
             one(self.last_target_score()),
+            median(self.last_luma_median()),
+            None,
         ]
     }
 
@@ -135,6 +162,8 @@ impl Wrapped for AdaptiveDetector {
             scorer.last_components().map(oracle_four),
             one(oracle.last_adaptive_ratio()),
             one(oracle.last_target_score()),
+            oracle_median(scorer),
+            None,
         ]
     }
 }

@@ -21,6 +21,8 @@ pub enum Command {
 pub struct Args {
     pub input: Input,
     pub asked: Asked,
+    /// The file of the light plan.
+    pub plan: Option<PathBuf>,
     pub list: List,
     pub stats: Option<PathBuf>,
     pub plot: Option<PathBuf>,
@@ -35,15 +37,15 @@ pub enum Input {
     Y4m { rate: Option<Rate> },
     /// Frames without a header on standard input.
     Raw { size: Size, format: Format, rate: Rate },
-    /// The film that the program makes itself.
-    Demo,
+    /// A film that the program makes itself: one in the light, or one in a room whose lamp goes out.
+    Demo { dim: bool },
 }
 
 impl Input {
     /// What its frames are.
     pub fn format(&self) -> Format {
         match self {
-            Input::File { .. } | Input::Demo => Format::Bgr24,
+            Input::File { .. } | Input::Demo { .. } => Format::Bgr24,
             Input::Y4m { .. } => Format::Gray,
             Input::Raw { format, .. } => *format,
         }
@@ -124,11 +126,13 @@ pub fn parse(words: impl IntoIterator<Item = OsString>) -> Result<Command, Fault
 struct Given {
     film: Option<OsString>,
     demo: bool,
+    dim: bool,
     raw: Option<Size>,
     rate: Option<Rate>,
     format: Option<Format>,
     scale: Option<u32>,
     asked: Asked,
+    plan: Option<PathBuf>,
     list: Option<List>,
     stats: Option<PathBuf>,
     plot: Option<PathBuf>,
@@ -157,6 +161,7 @@ impl Given {
             None => return Err(usage(&format!("there is no flag {flag}"))),
         };
         match flag {
+            "--plan" => self.plan = Some(value.into()),
             "--stats" => self.stats = Some(value.into()),
             "--plot" => self.plot = Some(value.into()),
             _ => {
@@ -175,6 +180,10 @@ impl Given {
         let list = match flag {
             "--demo" => {
                 self.demo = true;
+                return Ok(true);
+            }
+            "--dim" => {
+                self.dim = true;
                 return Ok(true);
             }
             "--csv" => List::Csv,
@@ -222,8 +231,8 @@ impl Given {
     fn command(self) -> Result<Command, Fault> {
         self.fitting()?;
         let (asked, list) = (self.asked, self.list.unwrap_or_default());
-        let (stats, plot) = (self.stats.clone(), self.plot.clone());
-        Ok(Command::Cut(Args { input: self.source()?, asked, list, stats, plot }))
+        let (plan, stats, plot) = (self.plan.clone(), self.stats.clone(), self.plot.clone());
+        Ok(Command::Cut(Args { input: self.source()?, asked, plan, list, stats, plot }))
     }
 
     /// Refuses settings that the chosen detector does not have.
@@ -231,6 +240,9 @@ impl Given {
         let asked = &self.asked;
         if asked.adaptive && asked.filter_mode.is_some() {
             return Err(usage("--mode is a setting of the content detector"));
+        }
+        if asked.adaptive && self.plan.is_some() {
+            return Err(usage("--plan is a setting of the content detector"));
         }
         if !asked.adaptive && asked.window_width.is_some() {
             return Err(usage("--window is a setting of --detector adaptive"));
@@ -243,7 +255,7 @@ impl Given {
 
     fn source(self) -> Result<Input, Fault> {
         let input = match (self.film, self.demo, self.raw) {
-            (None, true, None) => Input::Demo,
+            (None, true, None) => Input::Demo { dim: self.dim },
             (Some(film), false, raw) if film == "-" => match raw {
                 None => Input::Y4m { rate: self.rate },
                 Some(size) => Input::Raw {
@@ -259,14 +271,17 @@ impl Given {
         };
         let file = matches!(input, Input::File { .. });
         let raw = matches!(input, Input::Raw { .. });
-        let stamped = file || input == Input::Demo;
+        let demo = matches!(input, Input::Demo { .. });
         if self.scale.is_some() && !file {
             return Err(usage("--scale is for a film that ffmpeg decodes"));
+        }
+        if self.dim && !demo {
+            return Err(usage("--dim is for --demo"));
         }
         if self.format.is_some() && !raw {
             return Err(usage("--format is for --raw"));
         }
-        if self.rate.is_some() && stamped {
+        if self.rate.is_some() && (file || demo) {
             return Err(usage("--rate is for frames on standard input: this film has timestamps of its own"));
         }
         Ok(input)
@@ -274,7 +289,7 @@ impl Given {
 }
 
 /// The flags that have a value.
-const VALUED: [&str; 15] = [
+const VALUED: [&str; 16] = [
     "--raw",
     "--rate",
     "--format",
@@ -288,6 +303,7 @@ const VALUED: [&str; 15] = [
     "--window",
     "--min-content",
     "--initial-cut",
+    "--plan",
     "--stats",
     "--plot",
 ];
@@ -395,7 +411,8 @@ mod tests {
         assert_eq!(args("- --rate=25").input, Input::Y4m { rate: Some(rate) });
         let raw = Input::Raw { size, format: Format::Gray, rate };
         assert_eq!(args("--raw 640x480 --rate 25 --format gray -").input, raw);
-        assert_eq!(args("--demo").input, Input::Demo);
+        assert_eq!(args("--demo").input, Input::Demo { dim: false });
+        assert_eq!(args("--dim --demo").input, Input::Demo { dim: true });
         assert_eq!(parsed("a.mp4 --help"), Ok(Command::Help));
         assert_eq!(parsed("--version"), Ok(Command::Version));
     }
@@ -424,6 +441,13 @@ mod tests {
             ..AdaptiveOptions::default()
         };
         assert_eq!(adaptive.asked.settings(Format::Bgr24), Settings::Adaptive(options));
+    }
+
+    #[test]
+    fn a_plan_is_a_file() {
+        assert_eq!(args("a --plan room.plan").plan, Some("room.plan".into()));
+        assert_eq!(args("a --plan=-x").plan, Some("-x".into()));
+        assert_eq!(args("a").plan, None);
     }
 
     #[test]
@@ -474,6 +498,12 @@ mod tests {
             "a --mode fast",
             "a --detector x",
             "a --detector adaptive --mode merge",
+            "a --detector adaptive --plan b",
+            "a --plan",
+            "a --dim",
+            "- --dim",
+            "--dim",
+            "--demo --dim=yes",
             "a --window 2",
             "a --min-content 3",
             "a --weights 1,1,1",
@@ -498,7 +528,7 @@ mod tests {
 
     #[test]
     fn each_flag_is_in_the_help() {
-        for flag in VALUED.iter().chain(&["--demo", "--csv", "--json", "--help", "--version"]) {
+        for flag in VALUED.iter().chain(&["--demo", "--dim", "--csv", "--json", "--help", "--version"]) {
             assert!(HELP.contains(flag), "{flag}");
         }
     }

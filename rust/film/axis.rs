@@ -101,12 +101,20 @@ const LEAST: f64 = 0.01;
 const LOGARITHMIC: [f64; 12] = [0.0, 0.5, 1.0, 2.0, 5.0, 10.0, 20.0, 50.0, 100.0, 200.0, 500.0, 1000.0];
 
 impl Axis {
-    /// An axis with 0, these values, and the limit that they are compared with, unless that is far from all of them.
-    pub fn new(values: impl Iterator<Item = f64>, limit: f64, logarithmic: bool, top: f64, bottom: f64) -> Axis {
-        let (least, most) = values.fold((0.0f64, 0.0f64), |(least, most), value| (least.min(value), most.max(value)));
+    /// An axis with 0, these values, and the limits that they are compared with, but for those that are far from all of
+    /// them.
+    pub fn new(
+        values: impl Iterator<Item = f64>,
+        limits: impl Iterator<Item = f64>,
+        logarithmic: bool,
+        top: f64,
+        bottom: f64,
+    ) -> Axis {
+        let widened = |(least, most): (f64, f64), value: f64| (least.min(value), most.max(value));
+        let (least, most) = values.fold((0.0, 0.0), widened);
         let near = (10.0 * most.max(-least).max(3.0)).min(MOST);
-        let limit = if limit.abs() <= near { limit } else { 0.0 };
-        let (low, high) = (scaled(least.min(limit), logarithmic) * 1.05, scaled(most.max(limit), logarithmic) * 1.05);
+        let (least, most) = limits.filter(|limit| limit.abs() <= near).fold((least, most), widened);
+        let (low, high) = (scaled(least, logarithmic) * 1.05, scaled(most, logarithmic) * 1.05);
         Axis { top, bottom, low, high: high.max(low + LEAST), logarithmic }
     }
 
@@ -196,7 +204,7 @@ mod tests {
     }
 
     fn axis(values: &[f64], limit: f64, logarithmic: bool) -> Axis {
-        Axis::new(values.iter().copied(), limit, logarithmic, 100.0, 300.0)
+        Axis::new(values.iter().copied(), std::iter::once(limit), logarithmic, 100.0, 300.0)
     }
 
     #[test]

@@ -8,6 +8,7 @@ mod ffmpeg;
 mod frame;
 mod number;
 mod output;
+mod plan;
 mod plot;
 mod progress;
 mod queue;
@@ -98,9 +99,14 @@ fn cut(args: &Args) -> Result<(), Ended> {
 
 /// The detector, by the settings that were given and the kind of frame.
 fn judge(args: &Args) -> Result<Judge, Ended> {
-    let refused = |refusal| Ended { fault: Fault(format!("the settings are refused by {refusal}")), status: REFUSED };
+    let refused = |fault| Ended { fault, status: REFUSED };
+    let plan = args.plan.as_deref().map_or(Ok(Vec::new()), plan::read).map_err(refused)?;
     let format = args.input.format();
-    let judge = Judge::new(args.asked.settings(format)).map_err(refused)?;
+    let judge = Judge::new(args.asked.settings(format), &plan).map_err(|refusal| {
+        let place = args.plan.as_deref().and_then(|path| plan::place(path, &plan, refusal)).unwrap_or_default();
+        refused(Fault(format!("the settings are refused by {refusal}{place}")))
+    })?;
+    let judge = if args.stats.is_some() { judge.with_medians() } else { judge };
     if format == Format::Gray && args.asked.weights.is_none() {
         say("luma frames: the weights are 0,0,1,0, so a score is the luma difference (--weights sets others)");
     }
@@ -112,7 +118,7 @@ fn open(input: &Input) -> Result<Box<dyn Source>, Fault> {
         Input::File { path, scale } => Box::new(ffmpeg::Ffmpeg::open(path.as_os_str(), *scale)?),
         Input::Y4m { rate } => Box::new(y4m::Y4m::open(stdin()?, *rate)?),
         Input::Raw { size, format, rate } => Box::new(raw::Raw::open(stdin()?, *size, *format, *rate)?),
-        Input::Demo => Box::new(demo::Demo::new()),
+        Input::Demo { dim } => Box::new(demo::Demo::new(*dim)),
     })
 }
 
@@ -146,7 +152,7 @@ fn read(source: Box<dyn Source>, mut judge: Judge, name: String) -> Film {
         Err(fault) => (false, Some(fault)),
     };
     let end = last.map_or(0, |shown| ends(shown, &judge));
-    Film { name, size, format, settings: judge.settings, frames: judge.frames, end, ended, fault }
+    Film { name, size, format, settings: judge.settings, plan: judge.plan, frames: judge.frames, end, ended, fault }
 }
 
 /// When the last frame ends: where that is not known, it lasts as long as the one before.
@@ -160,7 +166,8 @@ fn name(input: &Input) -> String {
     match input {
         Input::File { path, .. } => path.to_string_lossy().into_owned(),
         Input::Y4m { .. } | Input::Raw { .. } => "-".into(),
-        Input::Demo => "demo".into(),
+        Input::Demo { dim: false } => "demo".into(),
+        Input::Demo { dim: true } => "dim demo".into(),
     }
 }
 
@@ -178,7 +185,7 @@ impl Files {
         let needed = match &args.input {
             Input::File { path, .. } => path.as_path(),
             Input::Y4m { .. } | Input::Raw { .. } => Path::new("/dev/stdin"),
-            Input::Demo => Path::new(""),
+            Input::Demo { .. } => Path::new(""),
         };
         files.stats.iter().chain(&files.plot).try_for_each(|file| file.apart(needed))?;
         if let (Some(plot), Some(stats)) = (&files.plot, &args.stats) {

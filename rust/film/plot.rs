@@ -30,8 +30,25 @@ struct Curve {
     value: fn(&Frame) -> Option<f64>,
     /// Whether its axis is logarithmic.
     logarithmic: bool,
-    /// The name of the setting that it is compared with, and its value.
-    limit: (&'static str, f64),
+    limit: Limit,
+}
+
+/// What a curve is compared with.
+enum Limit {
+    /// A setting: its name and its value.
+    Set(&'static str, f64),
+    /// The threshold that a light plan has for each frame.
+    ByPlan,
+}
+
+impl Limit {
+    /// Its values, in any order.
+    fn values(&self, film: &Film) -> Vec<f64> {
+        match self {
+            Limit::Set(_, value) => vec![*value],
+            Limit::ByPlan => film.frames.iter().filter_map(|frame| frame.threshold).collect(),
+        }
+    }
 }
 
 /// A curve with its place on the sheet.
@@ -40,6 +57,8 @@ struct Panel {
     axis: Axis,
     /// The places of each column's least and greatest value, as the coordinates of a path.
     path: String,
+    /// The thresholds by a light plan, as a path of steps, and the least and the greatest of them.
+    steps: Option<(String, [f64; 2])>,
     /// Whether there are more places than columns.
     is_dense: bool,
 }
@@ -76,8 +95,8 @@ pub fn write(film: &Film, out: &mut dyn Write) -> io::Result<()> {
     out.write_all(b"</svg>\n")
 }
 
-/// The curves of a detector, from the top.
-fn curves(settings: &Settings) -> Vec<Curve> {
+/// The curves of a film's detector, from the top.
+fn curves(film: &Film) -> Vec<Curve> {
     let score = |limit| Curve {
         name: "score",
         colour: "#1d5fa6",
@@ -85,17 +104,18 @@ fn curves(settings: &Settings) -> Vec<Curve> {
         logarithmic: false,
         limit,
     };
-    match settings {
-        Settings::Content(options) => vec![score(("threshold", options.threshold))],
+    match &film.settings {
+        Settings::Content(_) if film.plan.is_some() => vec![score(Limit::ByPlan)],
+        Settings::Content(options) => vec![score(Limit::Set("threshold", options.threshold))],
         Settings::Adaptive(options) => {
             let ratio = Curve {
                 name: "ratio",
                 colour: "#7b3f9e",
                 value: |frame: &Frame| frame.ratio,
                 logarithmic: true,
-                limit: ("threshold", options.threshold),
+                limit: Limit::Set("threshold", options.threshold),
             };
-            vec![ratio, score(("min_content_val", options.min_content_val))]
+            vec![ratio, score(Limit::Set("min_content_val", options.min_content_val))]
         }
     }
 }
@@ -131,11 +151,11 @@ impl Column {
     }
 }
 
-/// The points of a curve, from left to right: at most two a column.
-fn points(film: &Film, curve: &Curve, time: &Time) -> Vec<(i64, f64)> {
+/// The points of a curve with this value, from left to right: at most two a column.
+fn points(film: &Film, value: impl Fn(&Frame) -> Option<f64>, time: &Time) -> Vec<(i64, f64)> {
     let mut columns = vec![None; COLUMNS];
     for frame in &film.frames {
-        let value = (curve.value)(frame).filter(|value| !value.is_nan());
+        let value = value(frame).filter(|value| !value.is_nan());
         if let (Some(value), Some(column)) = (value, columns.get_mut(time.column(frame.at))) {
             *column = Some(Column::with(*column, (frame.at, value)));
         }
@@ -145,12 +165,17 @@ fn points(film: &Film, curve: &Curve, time: &Time) -> Vec<(i64, f64)> {
 
 impl Panel {
     fn new(film: &Film, curve: Curve, time: &Time, top: f64, bottom: f64) -> Panel {
-        let points = points(film, &curve, time);
+        let points = points(film, curve.value, time);
         let values = points.iter().map(|&(_, value)| value);
-        let axis = Axis::new(values, curve.limit.1, curve.logarithmic, top, bottom);
+        let limits = curve.limit.values(film);
+        let axis = Axis::new(values, limits.iter().copied(), curve.logarithmic, top, bottom);
         let place = |&(at, value): &(i64, f64)| format!("{:.1},{:.1}", time.x(at), axis.y(value));
         let path = points.iter().map(place).collect::<Vec<_>>().join(" ");
-        Panel { curve, axis, path, is_dense: points.len() > COLUMNS }
+        let steps = match curve.limit {
+            Limit::Set(..) => None,
+            Limit::ByPlan => steps(film, &axis, time).zip(ends(&limits)),
+        };
+        Panel { curve, axis, path, steps, is_dense: points.len() > COLUMNS }
     }
 
     /// The background of a panel, its lines across and their values.
@@ -190,25 +215,67 @@ impl Panel {
 
     /// The line of what the curve is compared with; where the curve is dense, on a light ground so that it is seen.
     fn limit(&self) -> String {
-        let limit = self.curve.limit.1;
-        if !self.axis.shows(limit) {
-            return String::new();
+        match (&self.curve.limit, &self.steps) {
+            (Limit::Set(_, limit), _) if self.axis.shows(*limit) => {
+                let y = self.axis.y(*limit);
+                let line = self.limit_line(&format!("M{LEFT} {y:.1}H{RIGHT}"), "");
+                line + &label(RIGHT + 6.0, y + 4.0, "start", LIMIT, &brief(*limit))
+            }
+            (Limit::ByPlan, Some((steps, _))) => self.limit_line(steps, "fill=\"none\" "),
+            _ => String::new(),
         }
-        let y = self.axis.y(limit);
-        let line = format!("<path d=\"M{LEFT} {y:.1}H{RIGHT}\"");
-        let ground = format!("{line} stroke=\"#ffffff\" stroke-width=\"3.4\" stroke-opacity=\"0.7\"/>\n");
+    }
+
+    fn limit_line(&self, path: &str, fill: &str) -> String {
+        let line = format!("<path d=\"{path}\" {fill}");
+        let ground = format!("{line}stroke=\"#ffffff\" stroke-width=\"3.4\" stroke-opacity=\"0.7\"/>\n");
         format!(
-            "{}{line} stroke=\"{LIMIT}\" stroke-width=\"1.4\" stroke-dasharray=\"7 4\"/>\n{}",
-            if self.is_dense { &ground } else { "" },
-            label(RIGHT + 6.0, y + 4.0, "start", LIMIT, &brief(limit))
+            "{}{line}stroke=\"{LIMIT}\" stroke-width=\"1.4\" stroke-dasharray=\"7 4\"/>\n",
+            if self.is_dense { &ground } else { "" }
         )
     }
+
+    /// Words for what the curve is compared with.
+    fn limit_name(&self) -> String {
+        match (&self.curve.limit, self.steps.as_ref().map(|(_, ends)| ends)) {
+            (Limit::Set(name, limit), _) => format!("{name} {}{}", brief(*limit), self.axis.beyond(*limit)),
+            (Limit::ByPlan, Some([least, most])) if least < most => {
+                format!("threshold by the light plan, {} to {}{}", brief(*least), brief(*most), self.axis.beyond(*most))
+            }
+            (Limit::ByPlan, Some([_, most])) => {
+                format!("threshold by the light plan, {}{}", brief(*most), self.axis.beyond(*most))
+            }
+            (Limit::ByPlan, None) => "threshold by the light plan".into(),
+        }
+    }
+}
+
+/// The thresholds of a film's frames as a path of steps: each holds until the next one.
+fn steps(film: &Film, axis: &Axis, time: &Time) -> Option<String> {
+    let points = points(film, |frame| frame.threshold, time);
+    let (&(at, first), rest) = points.split_first()?;
+    let mut path = format!("M{:.1} {:.1}", time.x(at), axis.y(first));
+    let mut last = first;
+    for &(at, threshold) in rest {
+        if threshold != last {
+            // a String takes all that is written
+            let _ = write!(path, "H{:.1}V{:.1}", time.x(at), axis.y(threshold));
+            last = threshold;
+        }
+    }
+    Some(format!("{path}H{:.1}", time.x(film.end)))
+}
+
+/// The least and the greatest of some numbers.
+fn ends(values: &[f64]) -> Option<[f64; 2]> {
+    let (first, rest) = values.split_first()?;
+    Some(rest.iter().fold([*first; 2], |[least, most], &value| [least.min(value), most.max(value)]))
 }
 
 impl Sheet<'_> {
     fn new(film: &Film) -> Sheet<'_> {
         let time = Time::of(film);
-        let curves = curves(&film.settings);
+        let curves = curves(film);
         let (top, gap) = (if film.fault.is_some() { 134.0 } else { 116.0 }, 26.0);
         let height = if curves.len() == 1 { 300.0 } else { 200.0 };
         let place = |number: usize| top + number as f64 * (height + gap);
@@ -247,9 +314,9 @@ impl Sheet<'_> {
 
     /// What the plot shows, for those who can't see it.
     fn description(&self, summary: &str) -> String {
-        let names = self.panels.iter().map(|panel| {
-            let (name, limit) = panel.curve.limit;
-            format!("the {} of each frame with {name} {}", panel.curve.name, short(limit))
+        let names = self.panels.iter().map(|panel| match panel.curve.limit {
+            Limit::Set(name, limit) => format!("the {} of each frame with {name} {}", panel.curve.name, short(limit)),
+            Limit::ByPlan => format!("the {} of each frame with {}", panel.curve.name, panel.limit_name()),
         });
         let names = names.collect::<Vec<_>>().join(", ");
         let cuts: Vec<String> = self.clips.iter().skip(1).take(50).map(|clip| timecode(clip.start)).collect();
@@ -280,11 +347,10 @@ impl Sheet<'_> {
 
     fn entries(&self) -> Vec<(&'static str, &'static str, String)> {
         let of_panel = |panel: &Panel| {
-            let (curve, (name, limit)) = (&panel.curve, panel.curve.limit);
+            let curve = &panel.curve;
             let scale = if curve.logarithmic { " (logarithmic)" } else { "" };
-            let line = format!("{name} {}{}", brief(limit), panel.axis.beyond(limit));
             let dashes = "stroke-dasharray=\"7 4\"";
-            [(curve.colour, "", format!("{}{scale}", curve.name)), (LIMIT, dashes, line)]
+            [(curve.colour, "", format!("{}{scale}", curve.name)), (LIMIT, dashes, panel.limit_name())]
         };
         let mut entries: Vec<_> = self.panels.iter().flat_map(of_panel).collect();
         let name = if self.with_timecodes { "cut" } else { "cut, with the number of the clip that it starts" };
@@ -492,6 +558,37 @@ mod tests {
         assert_eq!(text.matches(CURVE).count(), 1);
         let one = coordinates(path(&text, "fill=\"none\" stroke=\"#7b3f9e\""));
         assert_eq!(one.len(), 1);
+    }
+
+    #[test]
+    fn a_light_plan_has_steps() {
+        let text = plot(&sample::planned());
+        for part in [
+            ">threshold by the light plan, 8 to 27</text>",
+            ", light plan of 2 rows. Over time: the score of each frame with threshold by the light plan, 8 to 27.",
+        ] {
+            assert!(text.contains(part), "{part}: {text}");
+        }
+        let steps = path(&text, "stroke=\"#c2410c\" stroke-width=\"1.4\"");
+        let axis = &Sheet::new(&sample::planned()).panels[0].axis;
+        let [low, high] = [axis.y(8.0), axis.y(27.0)];
+        // the step is at the third frame, and the line ends with the film
+        assert_eq!(steps, format!("M70.0 {low:.1}H1094.4V{high:.1}H1140.0"));
+    }
+
+    #[test]
+    fn steps_of_a_long_film_are_few_and_far_ones_are_told() {
+        let mut film = Film { plan: sample::planned().plan, ..sample::scored(&[1.0; 50_000], &[]) };
+        for (place, frame) in film.frames.iter_mut().enumerate() {
+            frame.threshold = Some(f64::from(place as u32 % 3 * 100));
+        }
+        let text = plot(&film);
+        assert!(text.len() < 80_000, "{}", text.len());
+        assert!(text.contains(">threshold by the light plan, 0 to 200 (above what is shown)</text>"));
+        film.frames.iter_mut().for_each(|frame| frame.threshold = Some(5.0));
+        assert!(plot(&film).contains(">threshold by the light plan, 5</text>"));
+        film.frames.clear();
+        assert!(plot(&film).contains(">threshold by the light plan</text>"));
     }
 
     #[test]

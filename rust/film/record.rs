@@ -1,5 +1,6 @@
 //! What a run finds out: a record for each frame, and the clips between the cuts.
 use crate::frame::{Fault, Format, Size};
+use crate::plan::Plan;
 use mawerodu::{AdaptiveOptions, Components, ContentOptions};
 
 /// A detector with its settings.
@@ -20,6 +21,10 @@ pub struct Frame {
     pub components: Components,
     /// In the adaptive detector, of a frame that was judged: its score by the average of those around it.
     pub ratio: Option<f64>,
+    /// The median of its luma, if that was asked for.
+    pub median: Option<u8>,
+    /// With a light plan: the threshold of the row that has this median.
+    pub threshold: Option<f64>,
     /// Whether it is a cut: the first frame of a clip.
     pub cut: bool,
 }
@@ -47,6 +52,8 @@ pub struct Film {
     pub size: Size,
     pub format: Format,
     pub settings: Settings,
+    /// The light plan, if there is one.
+    pub plan: Option<Plan>,
     pub frames: Vec<Frame>,
     /// When the last frame ends, in microseconds.
     pub end: i64,

@@ -1,6 +1,7 @@
 //! The clips of a film: as a table for people, as comma-separated values, as JSON. Frames are counted from 1.
 use crate::frame::Format;
 use crate::number::{counted, exact, short};
+use crate::plan::{Plan, Row};
 use crate::record::{Clip, Film, Settings};
 use crate::timecode::{seconds, timecode};
 use mawerodu::{Components, FilterMode};
@@ -61,13 +62,16 @@ pub fn summary(film: &Film, clips: usize) -> String {
         Settings::Content(options) => ("content", options.threshold),
         Settings::Adaptive(options) => ("adaptive", options.threshold),
     };
+    let threshold = match &film.plan {
+        Some(plan) => format!("light plan of {}", counted(plan.rows().len(), "row")),
+        None => format!("threshold {}", short(threshold)),
+    };
     format!(
-        "{}, {}, {} of {}, {detector} detector, threshold {}",
+        "{}, {}, {} of {}, {detector} detector, {threshold}",
         counted(clips, "clip"),
         counted(clips.saturating_sub(1), "cut"),
         counted(film.frames.len(), "frame"),
-        film.size,
-        short(threshold)
+        film.size
     )
 }
 
@@ -108,7 +112,7 @@ pub fn json(film: &Film, out: &mut dyn Write) -> io::Result<()> {
     let clips = film.clips();
     let cuts: Vec<String> = clips.iter().skip(1).map(|clip| clip.start.to_string()).collect();
     let fault = film.fault.as_ref().map_or("null".to_string(), |fault| quoted(&fault.0));
-    let (detector, settings) = settings(&film.settings);
+    let (detector, settings) = settings(film);
     writeln!(out, "{{\n  \"film\": {},", quoted(&film.name))?;
     writeln!(out, "  \"width\": {},\n  \"height\": {},", film.size.width, film.size.height)?;
     writeln!(out, "  \"format\": \"{}\",\n  \"frames\": {},", format_name(film.format), film.frames.len())?;
@@ -148,14 +152,15 @@ fn format_name(format: Format) -> &'static str {
 }
 
 /// The detector and its settings, each with its name.
-fn settings(settings: &Settings) -> (&'static str, Vec<String>) {
-    match settings {
+fn settings(film: &Film) -> (&'static str, Vec<String>) {
+    match &film.settings {
         Settings::Content(o) => {
             let mode = match o.filter_mode {
                 FilterMode::Merge => "merge",
                 FilterMode::Suppress => "suppress",
             };
-            let own = [format!("\"filter_mode\": \"{mode}\"")];
+            let plan = film.plan.as_ref().map_or("null".to_string(), rows);
+            let own = [format!("\"filter_mode\": \"{mode}\""), format!("\"plan\": {plan}")];
             ("content", all_settings(o.threshold, o.min_duration, own, o.weights, o.kernel_size, o.initial_cut))
         }
         Settings::Adaptive(o) => {
@@ -166,6 +171,14 @@ fn settings(settings: &Settings) -> (&'static str, Vec<String>) {
             ("adaptive", all_settings(o.threshold, o.min_duration, own, o.weights, o.kernel_size, o.initial_cut))
         }
     }
+}
+
+/// The rows of a light plan, as a list.
+fn rows(plan: &Plan) -> String {
+    let object =
+        |row: &Row| format!("{{\"from\": {}, \"to\": {}, \"threshold\": {}}}", row.from, row.to, row.threshold);
+    let rows: Vec<String> = plan.rows().iter().map(object).collect();
+    format!("[{}]", rows.join(", "))
 }
 
 /// The settings that both detectors have, around those of one of them.
@@ -221,21 +234,24 @@ fn quoted(text: &str) -> String {
 #[cfg(test)]
 pub mod sample {
     use crate::frame::{Format, Size};
+    use crate::plan::Plan;
     use crate::record::{Film, Frame, Settings};
     use mawerodu::{AdaptiveOptions, Components, ContentOptions};
 
     pub fn frame(at: i64, score: Option<f64>, components: [f64; 4], cut: bool) -> Frame {
         let [hue, saturation, luma, edges] = components;
-        Frame { at, score, components: Components { hue, saturation, luma, edges }, ratio: None, cut }
+        let components = Components { hue, saturation, luma, edges };
+        Frame { at, score, components, ratio: None, median: Some(40), threshold: None, cut }
     }
 
-    /// Four frames with a cut at the third.
+    /// Four frames with a cut at the third, which is brighter.
     pub fn content() -> Film {
-        Film {
+        let mut film = Film {
             name: "demo".to_string(),
             size: Size { width: 640, height: 480 },
             format: Format::Bgr24,
             settings: Settings::Content(ContentOptions::default()),
+            plan: None,
             frames: vec![
                 frame(0, None, [0.0; 4], false),
                 frame(33_367, Some(1.0 / 3.0), [1.0, 0.0, 0.0, 0.0], false),
@@ -245,7 +261,19 @@ pub mod sample {
             end: 1_566_767,
             ended: true,
             fault: None,
+        };
+        film.frames[2..].iter_mut().for_each(|frame| frame.median = Some(240));
+        film
+    }
+
+    /// The same by a light plan of two rows.
+    pub fn planned() -> Film {
+        let plan = Plan::of("0,99,8\n100,255,27\n");
+        let mut film = Film { plan, ..content() };
+        for (frame, threshold) in film.frames.iter_mut().zip([8.0, 8.0, 27.0, 27.0]) {
+            frame.threshold = Some(threshold);
         }
+        film
     }
 
     pub fn adaptive() -> Film {
@@ -306,6 +334,15 @@ clip  frame         start  microseconds           end  microseconds        lengt
     }
 
     #[test]
+    fn a_table_by_a_light_plan() {
+        let text = written(table, &sample::planned());
+        assert!(
+            text.ends_with("2 clips, 1 cut, 4 frames of 640x480, content detector, light plan of 2 rows\n"),
+            "{text}"
+        );
+    }
+
+    #[test]
     fn a_table_of_no_frames() {
         let lines = "
 clip  frame  start  microseconds  end  microseconds  length
@@ -350,6 +387,7 @@ Length (frames),Length (timecode),Length (seconds),Start (us),End (us),Length (u
     "threshold": 27.0,
     "min_duration": 1000000,
     "filter_mode": "merge",
+    "plan": null,
     "weights": {"hue": 1.0, "saturation": 1.0, "luma": 1.0, "edges": 0.0},
     "kernel_size": null,
     "initial_cut": true
@@ -388,17 +426,19 @@ Length (frames),Length (timecode),Length (seconds),Start (us),End (us),Length (u
             kernel_size: Some(7),
             initial_cut: false,
         };
-        let all = settings(&Settings::Content(options)).1.join("\n");
+        let of = |settings_of| settings(&Film { settings: settings_of, ..sample::planned() }).1;
+        let all = of(Settings::Content(options)).join("\n");
         let lines = r#"
 "threshold": "-inf"
 "min_duration": 18446744073709551615
 "filter_mode": "suppress"
+"plan": [{"from": 0, "to": 99, "threshold": 8}, {"from": 100, "to": 255, "threshold": 27}]
 "weights": {"hue": -0.5, "saturation": 1e-300, "luma": 0.1, "edges": -0.0}
 "kernel_size": 7
 "initial_cut": false"#;
         assert_eq!(all, lines[1..]);
         let options = AdaptiveOptions { min_content_val: f64::INFINITY, ..AdaptiveOptions::default() };
-        assert_eq!(settings(&Settings::Adaptive(options)).1[3], "\"min_content_val\": \"inf\"");
+        assert_eq!(of(Settings::Adaptive(options))[3], "\"min_content_val\": \"inf\"");
     }
 
     #[test]

@@ -6,14 +6,15 @@ use std::io::{self, Write};
 
 /// Frames are counted from 1. `content_val` is the score, the columns with `delta_` are its components. A frame without
 /// a score has no components either, and a frame that was not judged has no ratio: these cells are empty. `cut` is 1
-/// for the first frame of each clip but the first. It writes line by line: hand it a writer with a buffer.
+/// for the first frame of each clip but the first. `luma_median` is the median of the frame's luma, by which a light
+/// plan has its threshold. It writes line by line: hand it a writer with a buffer.
 pub fn write(film: &Film, out: &mut dyn Write) -> io::Result<()> {
     let ratio = ratio_column(&film.settings);
     out.write_all(b"Frame Number,Timecode,Timestamp (us),content_val,delta_hue,delta_sat,delta_lum,delta_edges,")?;
     if let Some(name) = &ratio {
         write!(out, "{name},")?;
     }
-    out.write_all(b"cut\n")?;
+    out.write_all(b"cut,luma_median\n")?;
     for (place, frame) in film.frames.iter().enumerate() {
         out.write_all(line(place, frame, ratio.is_some()).as_bytes())?;
     }
@@ -34,12 +35,13 @@ fn line(place: usize, frame: &Frame, with_ratio: bool) -> String {
     let [hue, sat, lum, edges] = [c.hue, c.saturation, c.luma, c.edges].map(|value| cell(frame.score.and(Some(value))));
     let ratio = if with_ratio { cell(frame.ratio) + "," } else { String::new() };
     format!(
-        "{},{},{},{},{hue},{sat},{lum},{edges},{ratio}{}\n",
+        "{},{},{},{},{hue},{sat},{lum},{edges},{ratio}{},{}\n",
         place + 1,
         timecode(frame.at),
         frame.at,
         cell(frame.score),
-        u8::from(frame.cut)
+        u8::from(frame.cut),
+        frame.median.map(|median| median.to_string()).unwrap_or_default()
     )
 }
 
@@ -57,11 +59,11 @@ mod tests {
     #[test]
     fn of_the_content_detector() {
         let lines = "\
-Frame Number,Timecode,Timestamp (us),content_val,delta_hue,delta_sat,delta_lum,delta_edges,cut
-1,00:00:00.000,0,,,,,,0
-2,00:00:00.033,33367,0.3333333333333333,1.0,0.0,0.0,0.0,0
-3,00:00:01.500,1500000,85.0,10.5,44.5,200.0,0.0,1
-4,00:00:01.533,1533400,0.0,0.0,0.0,0.0,0.0,0
+Frame Number,Timecode,Timestamp (us),content_val,delta_hue,delta_sat,delta_lum,delta_edges,cut,luma_median
+1,00:00:00.000,0,,,,,,0,40
+2,00:00:00.033,33367,0.3333333333333333,1.0,0.0,0.0,0.0,0,40
+3,00:00:01.500,1500000,85.0,10.5,44.5,200.0,0.0,1,240
+4,00:00:01.533,1533400,0.0,0.0,0.0,0.0,0.0,0,240
 ";
         assert_eq!(written(&sample::content()), lines);
     }
@@ -69,11 +71,11 @@ Frame Number,Timecode,Timestamp (us),content_val,delta_hue,delta_sat,delta_lum,d
     #[test]
     fn of_the_adaptive_detector() {
         let lines = "\
-Frame Number,Timecode,Timestamp (us),content_val,delta_hue,delta_sat,delta_lum,delta_edges,adaptive_ratio (w=3),cut
-1,00:00:00.000,0,,,,,,,0
-2,00:00:00.033,33367,0.3333333333333333,1.0,0.0,0.0,0.0,,0
-3,00:00:01.500,1500000,85.0,10.5,44.5,200.0,0.0,255.0,1
-4,00:00:01.533,1533400,0.0,0.0,0.0,0.0,0.0,,0
+Frame Number,Timecode,Timestamp (us),content_val,delta_hue,delta_sat,delta_lum,delta_edges,adaptive_ratio (w=3),cut,luma_median
+1,00:00:00.000,0,,,,,,,0,40
+2,00:00:00.033,33367,0.3333333333333333,1.0,0.0,0.0,0.0,,0,40
+3,00:00:01.500,1500000,85.0,10.5,44.5,200.0,0.0,255.0,1,240
+4,00:00:01.533,1533400,0.0,0.0,0.0,0.0,0.0,,0,240
 ";
         assert_eq!(written(&sample::adaptive()), lines);
     }

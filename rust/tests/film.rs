@@ -22,6 +22,8 @@ mod json;
 mod lists;
 #[path = "film/model.rs"]
 mod model;
+#[path = "film/plans.rs"]
+mod plans;
 #[path = "film/program.rs"]
 mod program;
 #[path = "film/refusals.rs"]

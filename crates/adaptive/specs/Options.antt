@@ -1,5 +1,5 @@
 -- The adaptive detector's settings and their defaults (RULES 9.1), and their refusals (RULES 10.1, 10.5).
-use Rattle.std.specs.Prelude.{Bool, true, not, ◌||◌, [], ◌∷◌, ℕ, eqb, ltb, Float, None, Option}
+use Rattle.std.specs.Prelude.{Bool, true, false, not, ◌||◌, [], ◌∷◌, ℕ, eqb, ltb, Float, None, Option}
 use Rattle.std.specs.Float.Ieee.{is_nan}
 use Rattle.laws.specs.Floats.{float}
 use Rattle.refusal.specs.Refusal.{first_that}
@@ -25,9 +25,9 @@ abbrev pub window_options : Options → WindowOptions
 window_options o =
     record { adaptive_threshold = o.adaptive_threshold; min_duration = o.min_duration; window_width = o.window_width; min_content_val = o.min_content_val; initial_cut = o.initial_cut }
 
--- what a frame's picture is scored by: the weights and k (RULES 9.2)
+-- what the detector wants of a frame's picture: that it is scored by the weights and k (RULES 9.2), and no median
 abbrev pub picture_options : Options → PictureOptions
-picture_options o = record { weights = o.weights; kernel_size = o.kernel_size }
+picture_options o = record { weights = o.weights; kernel_size = o.kernel_size; wants_median = false }
 
 -- the first of the refusals 6 to 9 that holds, or 0; 9 is a threshold or `min_content_val` that is NaN (RULES 10.1)
 abbrev pub inner_refusal : Options → ℕ

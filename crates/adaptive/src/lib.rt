@@ -243,6 +243,7 @@ impl Detect for Detector {
         PictureOptions {
             weights: self.options.weights,
             kernel_size: self.options.kernel_size,
+            wants_median: false,
         }
     }
 

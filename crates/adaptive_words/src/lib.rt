@@ -4,7 +4,7 @@
 // Kept, point 4: `micros_word` has the promise that its word reads back, which `map` hands on.
 #![tactic(auto)]
 
-ghost use Rattle.std.specs.Prelude.{◌≡◌, true, length};
+ghost use Rattle.std.specs.Prelude.{◌≡◌, refl, true, length};
 ghost use Rattle.std.specs.Int.{w64};
 ghost use Rattle.std.proofs.Common.{of_z, to_z};
 ghost use Rattle.adaptive_words.specs.Options.{options_words, is_options, options_of};
@@ -174,6 +174,9 @@ impl Recorded<288> for AdaptiveRecord {
 
     ghost held_by = { adaptive_of };
 
+    // Words hold all of a state, the places of the window past its count too.
+    ghost tidied = { λ d. d };
+
     #[tactic(auto, unfolding(crate::specs::Record::adaptive_of, crate::specs::Record::is_adaptive))]
     fn read(w: &[u64; 288]) -> Detector {
         let a = &w[0..12];
@@ -199,6 +202,12 @@ impl Recorded<288> for AdaptiveRecord {
     }
 
     ghost accepted = { accepted };
+
+    ghost held_tidied = { λ w. refl };
+
+    ghost step_tidied = { λ d ts p e. refl };
+
+    ghost clear_tidied = { λ d e. refl };
 
     ghost stays = { stays };
 }

@@ -24,7 +24,7 @@ use Rattle.canny_marks.specs.Median.{count, insert, sort}
 abbrev pub below : ℕ → List ℕ → ℕ
 below v l = count (λ b. ltb b v) l
 
-count-append : (p : ℕ → Bool) (xs ys : List ℕ) → count p (xs ++ ys) ≡ count p xs + count p ys
+pub count-append : (p : ℕ → Bool) (xs ys : List ℕ) → count p (xs ++ ys) ≡ count p xs + count p ys
 unfolding count
 count-append p [] ys = omega arith
 count-append p (x ∷ xs) ys = omega (arith, count-append p xs ys)
@@ -109,7 +109,7 @@ pub record Tallied (s : List ℕ) (i : ℕ) (hist : List ℕ) : Type 0 where
   pub at : (v : ℕ) → v < 256 → get_or hist v 0 ≡ count (λ b. eqb b v) (take i s)
 
 -- f of an element, after element b changed by k in f
-changed : {A : Type 0} (f : A → ℕ) (l : List A) (b k v : ℕ) (x d : A) → b < length l → f x ≡ f (get_or l b d) + k
+pub changed : {A : Type 0} (f : A → ℕ) (l : List A) (b k v : ℕ) (x d : A) → b < length l → f x ≡ f (get_or l b d) + k
     → f (get_or (set l b x) v d) ≡ f (get_or l v d) + cond (eqb b v) k 0
 changed {A} f l b k v x d h e = go (ℕ_discrete v b)
   where
@@ -217,8 +217,6 @@ pub tallied-groups : {s : List ℕ} {i : ℕ} {hist : List ℕ} (n k : ℕ) (fou
     → ((v : ℕ) → v < 256 → get_or hist v 0 ≡ count (λ b. eqb b v) (concat fours)) → Tallied s i hist
 tallied-groups {s} n k fours cut e size h = record { len = size; at = λ v m. h v m ∙ rw e (count-groups (λ b. eqb b v) n k s fours cut) }
 
--- the entries of a whole histogram, added up from 0
-pub below_step : (s hist : List ℕ) (v cum : ℕ) → hist ≡ tabulate 256 (λ v. count (λ b. eqb b v) s) → v < 256 → cum ≡ below v s
-    → cum + get_or hist v 0 ≡ below (v + 1) s
-below_step s hist v cum e h q =
-    rw e (omega (arith, get_d_tabulate 256 (λ v. count (λ b. eqb b v) s) 0 v h, below_next v s))
+-- the entry of v of a whole histogram, added to the bytes below v
+pub below_step : (s hist : List ℕ) (v : ℕ) → hist ≡ tabulate 256 (λ v. count (λ b. eqb b v) s) → v < 256 → below v s + get_or hist v 0 ≡ below (v + 1) s
+below_step s hist v e h = rw e (omega (arith, get_d_tabulate 256 (λ v. count (λ b. eqb b v) s) 0 v h, below_next v s))

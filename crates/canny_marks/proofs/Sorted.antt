@@ -9,7 +9,7 @@ use lib.Dec.{leb, ltb}
 use lib.ListN.{length, get_or}
 use borrow.Author.Tests.{leb-true, leb-false, ltb-true, ltb-false, le-ltb}
 use Rattle.canny_marks.specs.Median.{count, insert, sort, median_of}
-use Rattle.canny_marks.proofs.Counts.{below, count-sort, length-sort, count-length}
+use Rattle.canny_marks.proofs.Counts.{below, below_all, count-sort, length-sort, count-length}
 
 -- the elements rise, from v on
 pub data Sorted : ℕ → List ℕ → Type 0 where
@@ -96,3 +96,11 @@ median-reached l h = go (dec_lt (length l / 2) (below (median_of l + 1) l))
               (omega (arith, k, count-sort (λ b. ltb b (median_of l + 1)) l))
               (omega (arith, length-sort l)),
         ))
+
+-- the median of bytes is a byte
+pub median_below : (l : List ℕ) → ((i : ℕ) → i < length l → get_or l i 0 < 256) → median_of l ≤ 255
+median_below l bytes = go (dec_lt 0 (length l))
+  where
+    go : Dec (0 < length l) → median_of l ≤ 255
+    go (yes h) = median-least l 255 (omega (arith, h, below_all 256 l bytes))
+    go (no h) = omega (arith, median-none l (omega (arith, h)))

@@ -1,7 +1,7 @@
 // What the edges take from the luma plane as a whole: its median, the low and the high mark, and the side of the dilation's window.
 #![tactic(auto)]
 
-ghost use Rattle.std.specs.Prelude.{◌≡◌, ℕ, ◌+◌, ◌^◌, ◌<◌, [], eqb, get_or, sum};
+ghost use Rattle.std.specs.Prelude.{◌≡◌, List, ℕ, ◌+◌, ◌^◌, ◌<◌, [], eqb, length, get_or, sum};
 ghost use Rattle.std.specs.List.{concat};
 ghost use Rattle.laws.specs.Lists.{tabulate};
 ghost use Rattle.canny_marks.specs.Median.{count, median_of};
@@ -51,20 +51,32 @@ fn histogram(buf: &[u8]) -> [usize; 256]
     hist
 }
 
+// The median of n bytes, by how many there are of each value: of whatever bytes have these counts.
+pub fn median_of_histogram(hist: &[usize; 256], n: usize) -> u8
+    ensures { (luma : List ℕ)
+        → ((i : ℕ) → i < length luma → get_or luma i 0 < 256)
+        → hist.now ≡ tabulate 256 (λ v. count (λ b. eqb b v) luma)
+        → n ≡ length luma
+        → result ≡ median_of luma }
+{
+    // How many of the bytes from v on stand before the median.
+    let mut before = n / 2;
+    for (v, &count) in hist.iter().enumerate() {
+        if before < count {
+            return v as u8;
+        }
+        before -= count;
+    }
+    255
+}
+
 // The value at place floor(n / 2) of the sorted bytes, counted from 0; 255 for none (RULES 5.3).
+// Not inlined: the counts take 12 KiB of stack, which a caller would then hold while it calls other functions.
+#[inline(never)]
 pub fn median_u8(buf: &[u8]) -> u8
     ensures { result ≡ median_of buf.now }
 {
-    let hist = histogram(buf);
-    let half = buf.len() / 2;
-    let mut cum = 0;
-    for (v, &n) in hist.iter().enumerate() {
-        cum += n;
-        if half < cum {
-            return v as u8;
-        }
-    }
-    255
+    median_of_histogram(&histogram(buf), buf.len())
 }
 
 // The low mark of a median (RULES 5.4).

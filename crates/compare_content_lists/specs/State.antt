@@ -10,14 +10,17 @@ use Rattle.filter.specs.declared.FilterMode.TheVariants.{Suppress, Merge}
 use Rattle.content.specs.declared.Options.{Options}
 use Rattle.content.specs.declared.Detector.{Detector}
 use Rattle.content.specs.Options.{options}
+use Rattle.light_plan.specs.declared.Plan.{Plan}
+use Rattle.light_plan.specs.Rows.{row}
+use Rattle.compare_content_lists.specs.Plans.{plan_by, one_row, counted}
 use Rattle.compare_lists.specs.Records.{byte_of, threshold_of, weights_of, kernel_of, minimum_of, initial_cut_of, too_high}
 
 -- the filter mode of a byte b: Suppress where it is even, otherwise Merge
 unfoldable pub mode_of : ℕ → FilterMode
 mode_of b = cond (eqb (b % 2) 0) Suppress Merge
 
--- the settings: the threshold by r[0] % 32, where the other one is r[1] / 4 (a fraction), the minimum, the weights, the filter mode by r[7], k and
--- `initial_cut`
+-- the settings: the threshold by r[0] % 32, where the other one is r[1] / 4 (a fraction), the minimum, the weights, the filter mode by r[7], k,
+-- `initial_cut` and the light plan by r[14], r[1] and r[15]
 unfoldable pub settings_of : List ℕ → Options
 settings_of s =
     options
@@ -27,6 +30,7 @@ settings_of s =
     (mode_of (byte_of s 0 7))
     (kernel_of s)
     (initial_cut_of s)
+    (plan_by (byte_of s 0 14) (byte_of s 0 1) (byte_of s 0 15))
 
 -- a merge that is triggered without its start
 abbrev pub triggered_of : Filter → Filter
@@ -34,9 +38,18 @@ triggered_of f = record { last_above = f.last_above; merge_enabled = f.merge_ena
 
 -- a threshold that is NaN
 abbrev pub without_threshold : Options → Options
-without_threshold o = options nan o.min_duration o.weights o.filter_mode o.kernel_size o.initial_cut
+without_threshold o = options nan o.min_duration o.weights o.filter_mode o.kernel_size o.initial_cut o.plan
 
--- a bad record: for 0 a merge that is triggered without its start, for 1 a height of 4,097, otherwise a threshold that is NaN
+-- another light plan
+abbrev pub planned : Options → Plan → Options
+planned o p = options o.threshold o.min_duration o.weights o.filter_mode o.kernel_size o.initial_cut p
+
+-- a state with other settings
+abbrev pub with_options : Detector → Options → Detector
+with_options d o = record { options = o; stream = d.stream; filter = d.filter }
+
+-- a bad record: for 0 a merge that is triggered without its start, for 1 a height of 4,097, for 2 a threshold that is NaN, for 3 a plan of 17 rows,
+-- otherwise a plan without the median 255
 unfoldable pub spoiled_by : Detector → ℕ → Detector
 spoiled_by d how =
     cond
@@ -45,4 +58,10 @@ spoiled_by d how =
     (cond
     (eqb how 1)
     (record { options = d.options; stream = too_high d.stream; filter = d.filter })
-    (record { options = without_threshold d.options; stream = d.stream; filter = d.filter }))
+    (cond
+    (eqb how 2)
+    (with_options d (without_threshold d.options))
+    (cond
+    (eqb how 3)
+    (with_options d (planned d.options (counted 17 d.options.plan)))
+    (with_options d (planned d.options (one_row (row 0 254 0)))))))

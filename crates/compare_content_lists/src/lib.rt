@@ -3,6 +3,7 @@
 // they write, and the calls' own contracts say what a call brings.
 #![tactic(auto)]
 
+mod plans;
 mod state;
 
 ghost use Rattle.std.specs.Prelude.{eqb, ◌%◌};
@@ -24,7 +25,7 @@ impl Lists<Detector> for ContentLists {
 
     ghost clears = { λ lists kind b. eqb kind 0 };
 
-    ghost spoiled = { λ lists d b. spoiled_by d (b % 3) };
+    ghost spoiled = { λ lists d b. spoiled_by d (b % 5) };
 
     // Kept: the trait's method; the functions of `state` are what differs.
     fn settled(self, script: &[u8]) -> Result<Detector, Refused<Detector>> {
@@ -37,7 +38,7 @@ impl Lists<Detector> for ContentLists {
 
     // Kept: the trait's method; the functions of `state` are what differs.
     fn spoiled(self, d: Detector, b: u32) -> Detector {
-        state::spoiled(d, b % 3)
+        state::spoiled(d, b % 5)
     }
 
     fn put_state(self, _out: &mut Output<'_>, _d: Detector) {}

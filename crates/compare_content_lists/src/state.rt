@@ -3,6 +3,7 @@
 ghost use Rattle.std.specs.Prelude.{◌≡◌};
 ghost use Rattle.compare_content_lists.specs.State.{mode_of, settings_of, triggered_of, spoiled_by};
 
+use crate::plans;
 use compare_lists::input::{self, Record};
 use content::{Detector, Options};
 use filter::{Filter, FilterMode};
@@ -32,6 +33,7 @@ pub fn settings(script: &[u8]) -> Options
         filter_mode: filter_mode(r.byte(7)),
         kernel_size: input::kernel(script),
         initial_cut: input::initial_cut(script),
+        plan: plans::plan_by(r.byte(14) as u8, r.byte(1) as u8, r.byte(15) as u8),
     }
 }
 
@@ -46,7 +48,7 @@ fn triggered(f: Filter) -> Filter
     }
 }
 
-// A bad record: a merge triggered without its start, a side too large, or a NaN threshold.
+// A bad record: a merge triggered without its start, a side too large, a NaN threshold, a plan of too many rows, or one without a median.
 #[tactic(auto, unfolding(crate::specs::State::spoiled_by))]
 pub fn spoiled(mut d: Detector, how: u32) -> Detector
     ensures { result ≡ spoiled_by d how }
@@ -54,7 +56,9 @@ pub fn spoiled(mut d: Detector, how: u32) -> Detector
     match how {
         0 => d.filter = triggered(d.filter),
         1 => d.stream.height = 4097,
-        _ => d.options.threshold = f64::NAN,
+        2 => d.options.threshold = f64::NAN,
+        3 => d.options.plan.count = 17,
+        _ => d.options.plan = plans::without_the_last(),
     }
     d
 }

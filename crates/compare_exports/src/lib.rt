@@ -226,7 +226,7 @@ pub extern "C" fn mw_edge_plane(
     if luma.len() != n || mag.len() != n || edges.len() != n {
         return OTHER_LENGTH;
     }
-    canny::edge_plane(luma, mag, edges, w, h, k);
+    canny::edge_plane(luma, None, mag, edges, w, h, k);
     0
 }
 

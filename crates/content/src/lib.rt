@@ -5,13 +5,14 @@
 ghost use Rattle.std.specs.Prelude.{◌≡◌, refl};
 ghost use Rattle.refusal.specs.Refusal.{number_in};
 ghost use Rattle.detector.specs.Answers.{settled_in};
-ghost use Rattle.content.specs.Options.{options, defaults, filter_options, picture_options, options_refusal};
+ghost use Rattle.content.specs.Options.{options, with_plan, defaults, filter_options, picture_options, options_refusal};
 ghost use Rattle.content.specs.State.{fresh, bad_filter, bad_state, settled, cleared_answer};
-ghost use Rattle.content.specs.Step.{filter_step, stepped};
+ghost use Rattle.content.specs.Step.{frame_threshold, filter_step, stepped};
 
 use detector::{Detect, Step};
 use filter::{Filter, FilterMode, FilterOptions, FilterStep};
 use frame_call::{Picture, PictureOptions};
+use light_plan::Plan;
 use refusal::{Refusal, Refused};
 use score::Components;
 use stream::Stream;
@@ -27,6 +28,8 @@ pub struct Options {
     pub kernel_size: Option<u32>,
     // Whether the seed lies the minimum before the first scored frame, so that this frame may be a cut, or at it.
     pub initial_cut: bool,
+    // The light plan, or none: with a plan, the row that has a frame's luma median gives its threshold.
+    pub plan: Plan,
 }
 
 // What one call hands to the next.
@@ -50,6 +53,7 @@ impl Options {
             filter_mode: FilterMode::Merge,
             kernel_size: None,
             initial_cut: true,
+            plan: Plan::none(),
         }
     }
 
@@ -60,7 +64,7 @@ impl Options {
     }
 
     pub fn with_threshold(mut self, val: f64) -> Self
-        ensures { result ≡ options val self.min_duration self.weights self.filter_mode self.kernel_size self.initial_cut }
+        ensures { result ≡ options val self.min_duration self.weights self.filter_mode self.kernel_size self.initial_cut self.plan }
     {
         self.threshold = val;
         self
@@ -73,7 +77,7 @@ impl Options {
     }
 
     pub fn with_min_duration(mut self, val: u64) -> Self
-        ensures { result ≡ options self.threshold val self.weights self.filter_mode self.kernel_size self.initial_cut }
+        ensures { result ≡ options self.threshold val self.weights self.filter_mode self.kernel_size self.initial_cut self.plan }
     {
         self.min_duration = val;
         self
@@ -86,7 +90,7 @@ impl Options {
     }
 
     pub fn with_weights(mut self, val: Components) -> Self
-        ensures { result ≡ options self.threshold self.min_duration val self.filter_mode self.kernel_size self.initial_cut }
+        ensures { result ≡ options self.threshold self.min_duration val self.filter_mode self.kernel_size self.initial_cut self.plan }
     {
         self.weights = val;
         self
@@ -99,7 +103,7 @@ impl Options {
     }
 
     pub fn with_filter_mode(mut self, val: FilterMode) -> Self
-        ensures { result ≡ options self.threshold self.min_duration self.weights val self.kernel_size self.initial_cut }
+        ensures { result ≡ options self.threshold self.min_duration self.weights val self.kernel_size self.initial_cut self.plan }
     {
         self.filter_mode = val;
         self
@@ -112,7 +116,7 @@ impl Options {
     }
 
     pub fn with_kernel_size(mut self, val: Option<u32>) -> Self
-        ensures { result ≡ options self.threshold self.min_duration self.weights self.filter_mode val self.initial_cut }
+        ensures { result ≡ options self.threshold self.min_duration self.weights self.filter_mode val self.initial_cut self.plan }
     {
         self.kernel_size = val;
         self
@@ -125,9 +129,22 @@ impl Options {
     }
 
     pub fn with_initial_cut(mut self, val: bool) -> Self
-        ensures { result ≡ options self.threshold self.min_duration self.weights self.filter_mode self.kernel_size val }
+        ensures { result ≡ options self.threshold self.min_duration self.weights self.filter_mode self.kernel_size val self.plan }
     {
         self.initial_cut = val;
+        self
+    }
+
+    pub fn plan(self) -> Plan
+        ensures { result ≡ self.plan }
+    {
+        self.plan
+    }
+
+    pub fn with_plan(mut self, val: Plan) -> Self
+        ensures { result ≡ with_plan self val }
+    {
+        self.plan = val;
         self
     }
 }
@@ -146,11 +163,12 @@ impl From<Options> for FilterOptions {
     }
 }
 
-// Refusals 6 to 9 of settings.
+// Refusals 6 to 9 of settings, then 20 to 22 of their plan.
 fn check_options(o: Options) -> Result<(), Refusal>
     ensures { number_in result ≡ options_refusal o }
 {
-    score::check_settings(o.weights, o.kernel_size, score::is_nan(o.threshold))
+    score::check_settings(o.weights, o.kernel_size, score::is_nan(o.threshold))?;
+    o.plan.check()
 }
 
 // A fresh state with these options.
@@ -188,16 +206,35 @@ fn bad_filter(f: Filter) -> bool
     f.merge_triggered & (f.merge_start.is_none() | f.last_above.is_none())
 }
 
-// The filter's step by a frame's score or none.
-fn filter_step(o: Options, f: Filter, ts: Timestamp, last: Option<f64>) -> FilterStep
-    ensures { result ≡ filter_step o f ts last }
+// The threshold of a frame: by its luma median, where a plan wants one, or the set one.
+fn frame_threshold(o: Options, median: Option<u8>) -> f64
+    ensures { result ≡ frame_threshold o median }
+{
+    match median {
+        None => o.threshold,
+        Some(m) => f64::from(o.plan.threshold_at(m)),
+    }
+}
+
+// The filter's step by a frame's score or none, and its luma median where a plan wants it.
+fn filter_step(
+    o: Options,
+    f: Filter,
+    ts: Timestamp,
+    last: Option<f64>,
+    median: Option<u8>,
+) -> FilterStep
+    ensures { result ≡ filter_step o f ts last median }
 {
     match last {
         None => FilterStep {
             filter: filter::new(),
             cut: None,
         },
-        Some(value) => { filter::flash_filter(o.into(), f, ts, score::above(value, o.threshold)) }
+        Some(value) => {
+            let above = score::above(value, frame_threshold(o, median));
+            filter::flash_filter(o.into(), f, ts, above)
+        }
     }
 }
 
@@ -222,6 +259,7 @@ impl Detect for Detector {
         PictureOptions {
             weights: self.options.weights,
             kernel_size: self.options.kernel_size,
+            wants_median: self.options.plan.is_given(),
         }
     }
 
@@ -236,7 +274,7 @@ impl Detect for Detector {
     fn step(self, ts: Timestamp, p: Picture) -> Step<Self> {
         // Kept: one name for the score that is stepped by and answered.
         let score = p.stream.last_score;
-        let next = filter_step(self.options, self.filter, ts, score);
+        let next = filter_step(self.options, self.filter, ts, score, p.median);
         Step {
             // Kept: the stream is copied from the picture, the rest from the step.
             detector: Detector {

@@ -3,6 +3,7 @@
 use Rattle.std.proofs.Common.{Float, None, Option, Some}
 use mathlib.Core.Path.{◌≡◌, refl, ap}
 use mathlib.Core.Bool.{false}
+use Prim.Native.Nat.{ℕ}
 use Rattle.timestamp.specs.declared.Timestamp.{Timestamp}
 use Rattle.frame.specs.Checks.{too_large}
 use Rattle.frame_call.proofs.Runs.{DetectorLaws}
@@ -21,10 +22,10 @@ pub record Good (o : Options) (d : Detector) : Type 0 where
 pub fresh-good : (o : Options) → Good o (fresh o)
 fresh-good o = record { options = refl; sides = refl; filter = refl }
 
-filter-stays : (d : Detector) (ts : Timestamp) (x : Option Float) → bad_filter d.filter ≡ false
-    → bad_filter (filter_step d.options d.filter ts x).filter ≡ false
-filter-stays d ts None e = refl
-filter-stays d ts (Some x) e = flash-keeps (filter_options d.options) d.filter ts _ e
+filter-stays : (d : Detector) (ts : Timestamp) (x : Option Float) (median : Option ℕ) → bad_filter d.filter ≡ false
+    → bad_filter (filter_step d.options d.filter ts x median).filter ≡ false
+filter-stays d ts None median e = refl
+filter-stays d ts (Some x) median e = flash-keeps (filter_options d.options) d.filter ts _ e
 
 module _ (o : Options) (ok : options_refusal o ≡ 0) where
   pub not-bad : (d : Detector) → Good o d → bad_state d ≡ false
@@ -41,7 +42,7 @@ module _ (o : Options) (ok : options_refusal o ≡ 0) where
       record {
         not-bad = not-bad;
         step-number = λ d ts p. refl;
-        step_stays = λ d ts p e g. record { options = g.options; sides = e; filter = filter-stays d ts p.stream.last_score g.filter };
+        step_stays = λ d ts p e g. record { options = g.options; sides = e; filter = filter-stays d ts p.stream.last_score p.median g.filter };
         refused-number = λ d n. refl;
         refused-state = λ d n. refl;
         clear-number = λ d g. ap (λ (a : Answer). a.number) (clear-is d g);

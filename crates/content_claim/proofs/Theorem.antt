@@ -6,6 +6,7 @@ use lib.Dec.{eqb}
 use lib.Ieee.{le, of_int, is_nan}
 use borrow.Author.Tests.{eqb-true}
 use Rattle.score.specs.Settings.{settings_refusal, any_too_heavy, too_heavy, all_zero}
+use Rattle.light_plan.specs.Rows.{rows_refusal}
 use Rattle.filter.specs.Calls.{◌brought◌}
 use Rattle.filter.specs.Claim.{StretchesHold}
 use Rattle.filter.specs.Seen.{seen_by_filter}
@@ -55,7 +56,7 @@ content-claim o ok calls =
 
 -- the defaults are accepted
 pub defaults-accepted : options_refusal defaults ≡ 0
-unfolding settings_refusal any_too_heavy too_heavy all_zero le of_int is_nan
+unfolding settings_refusal any_too_heavy too_heavy all_zero le of_int is_nan rows_refusal
 defaults-accepted = refl
 
 -- a settings call, accepted or refused: the claim holds under the settings that it returned

@@ -6,19 +6,23 @@ use Prim.Native.Nat.{ℕ}
 use lib.Dec.{eqb}
 use lib.Ieee.{le}
 use Rattle.timestamp.specs.declared.Timestamp.{Timestamp}
+use Rattle.laws.specs.Floats.{float}
+use Rattle.canny_marks.specs.Median.{median_of}
 use Rattle.score.specs.Scores.{score_of}
 use Rattle.stream.specs.Stream.{components_of, is_scored, next_stream}
 use Rattle.scoring.specs.Planes.{Planes}
 use Rattle.filter.specs.declared.FilterStep.{FilterStep}
 use Rattle.filter.specs.Calls.{Frame, refused, frame, State, Turn, filtered, turn_to, turn}
-use Rattle.frame_call.specs.Call.{Memory, Call, luma, bgr, hsv, clear, frame_number, sums_of, accepted, pictured, answered_by}
+use Rattle.light_plan.specs.Rows.{threshold_at}
+use Rattle.light_plan.specs.Plan.{rows_of, is_given}
+use Rattle.frame_call.specs.Call.{Memory, Call, luma, bgr, hsv, clear, frame_number, sums_of, median_if, accepted, pictured, answered_by}
 use Rattle.frame_call.proofs.Runs.{if-accepted, if-refused}
 use Rattle.content.specs.declared.Options.{Options}
 use Rattle.content.specs.declared.Detector.{Detector}
 use Rattle.content.specs.Options.{filter_options, picture_options, options_refusal}
 use Rattle.content.specs.State.{Answer, bad_state, refused_answer}
-use Rattle.content.specs.Step.{filter_step, stepped, called}
-use Rattle.content_claim.specs.Claim.{frame_score, view_of}
+use Rattle.content.specs.Step.{frame_threshold, filter_step, stepped, called}
+use Rattle.content_claim.specs.Claim.{frame_score, own_threshold, view_of}
 use Rattle.content_claim.proofs.Good.{Good, not-bad, clear-is}
 
 -- what the filter's detector would keep
@@ -29,17 +33,25 @@ kept d = record { has_previous = d.stream.has_previous; width = d.stream.width; 
 abbrev turned : Answer → Turn
 turned a = record { state = kept a.detector; cut = a.cut }
 
+-- a frame's own threshold is the one that the detector measures it by
+own-is : (o : Options) (p : Planes) → own_threshold o p ≡ frame_threshold o (median_if (is_given o.plan) p.luma)
+own-is o p = by-given (is_given o.plan)
+  where
+    by-given : (given : Bool) → cond given (float (threshold_at (rows_of o.plan) (median_of p.luma))) o.threshold ≡ frame_threshold o (median_if given p.luma)
+    by-given true = refl
+    by-given false = refl
+
 module _ (d : Detector) (u w h : ℕ) (p : Planes) (ts : Timestamp) (m : Memory) where
   abbrev seen_frame : Frame
-  seen_frame = record { stamp = ts; above = le d.options.threshold (frame_score d.options w h p m.store) }
+  seen_frame = record { stamp = ts; above = le (own_threshold d.options p) (frame_score d.options w h p m.store) }
 
   -- the detector asks for a score just where there is one
   filtered-is : (scored : Bool)
       → filtered (filter_options d.options) scored d.filter seen_frame
       ≡ filter_step d.options d.filter ts
-      (cond scored (Some (score_of (components_of (sums_of (picture_options d.options) scored w h p m.store)) d.options.weights)) None)
+      (cond scored (Some (score_of (components_of (sums_of (picture_options d.options) scored w h p m.store)) d.options.weights)) None) (median_if (is_given d.options.plan) p.luma)
   unfolding frame_score
-  filtered-is true = refl
+  filtered-is true = rw (own-is d.options p) refl
   filtered-is false = refl
 
   accepted-acts : turn (filter_options d.options) (kept d) (frame w h seen_frame)

@@ -3,11 +3,15 @@
 -- detector's state.
 use Rattle.std.specs.Prelude.{◌≡◌, true, cond, List, map, ℕ, Float, Option}
 use Rattle.std.specs.Float.Ieee.{le}
+use Rattle.laws.specs.Floats.{float}
 use Rattle.score.specs.Scores.{score_of}
 use Rattle.stream.specs.Stream.{components_of}
 use Rattle.scoring.specs.Planes.{Planes}
 use Rattle.filter.specs.Calls.{FilterCall, refused, frame, clear, Answered, ◌brought◌}
 use Rattle.filter.specs.Claim.{StretchesHold}
+use Rattle.canny_marks.specs.Median.{median_of}
+use Rattle.light_plan.specs.Rows.{threshold_at}
+use Rattle.light_plan.specs.Plan.{rows_of, is_given}
 use Rattle.frame_call.specs.Call.{Call, by_call, sums_of}
 use Rattle.frame_call.specs.Run.{is_refused, MadeCall, run_from, RunClaim}
 use Rattle.content.specs.declared.Options.{Options}
@@ -20,11 +24,15 @@ use Rattle.timestamp.specs.declared.Timestamp.{Timestamp}
 unfoldable pub frame_score : Options → (width height : ℕ) → Planes → (store : List ℕ) → Float
 frame_score o w h p store = score_of (components_of (sums_of (picture_options o) true w h p store)) o.weights
 
--- A call as `filter`'s claim sees it (RULES 14.7): refused; a frame with its size, its stamp, and whether its score is at or over the threshold,
+-- a frame's own threshold: with a plan that of the row that has the median of its luma, otherwise the set one (RULES 18.5)
+abbrev pub own_threshold : Options → Planes → Float
+own_threshold o p = cond (is_given o.plan) (float (threshold_at (rows_of o.plan) (median_of p.luma))) o.threshold
+
+-- A call as `filter`'s claim sees it (RULES 14.7): refused; a frame with its size, its stamp, and whether its score is at or over its own threshold,
 -- which is not asked of the first frame of a stretch; or a `clear`.
 abbrev pub view_of : Options → Call → FilterCall
 view_of o c =
-    by_call (λ u w h p ts m. cond (is_refused c) refused (frame w h (record { stamp = ts; above = le o.threshold (frame_score o w h p m.store) }))) clear c
+    by_call (λ u w h p ts m. cond (is_refused c) refused (frame w h (record { stamp = ts; above = le (own_threshold o p) (frame_score o w h p m.store) }))) clear c
 
 -- the calls of a list, from a fresh state (RULES 14.5)
 abbrev pub content_run : Options → List Call → List (MadeCall Answer)

@@ -1,3 +1,4 @@
 pub mod Made
+pub mod Bytes
 pub mod Writing
 pub mod Refused

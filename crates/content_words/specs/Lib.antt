@@ -1,4 +1,5 @@
 pub mod Options
 pub mod Filter
+pub mod Plan
 pub mod Record
 pub mod Calls

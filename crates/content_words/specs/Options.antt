@@ -1,18 +1,19 @@
--- The content detector's settings in eleven words, the record's version first.
+-- The content detector's settings but for the light plan in eleven words, the record's version first.
 use Rattle.std.specs.Prelude.{Bool, true, false, ◌&&◌, ◌||◌, List, [], ◌∷◌, ℕ, leb, ltb, eqb}
 use Rattle.std.specs.Float.{binary64}
 use Rattle.std.specs.Float.Ieee.{to_bits, of_bits}
 use Rattle.score.specs.declared.Components.{Components}
 use Rattle.filter.specs.declared.FilterMode.{FilterMode}
 use Rattle.filter.specs.declared.FilterMode.TheVariants.{Suppress, Merge}
+use Rattle.light_plan.specs.declared.Plan.{Plan}
 use Rattle.content.specs.declared.Options.{Options}
 use Rattle.content.specs.Options.{options}
 use Rattle.words.specs.Choices.{flag_word, flag_of, kernel_tag, kernel_word, kernel_of, components_of}
 use Rattle.words.specs.Stream.{word_at}
 
--- the version of the record, which is the letters MWCONT01
+-- the version of the record, which is the letters MWCONT02
 abbrev pub content_version : ℕ
-content_version = 0x4d57434f4e543031
+content_version = 0x4d57434f4e543032
 
 -- the word of a filter mode: 0 for Merge, 1 for Suppress
 abbrev pub mode_word : FilterMode → ℕ
@@ -50,9 +51,9 @@ options_words o =
 unfoldable pub is_options : List ℕ → Bool
 is_options w = eqb (word_at w 0) content_version && leb (word_at w 7) 1 && leb (word_at w 8) 1 && (eqb (word_at w 8) 0 || ltb (word_at w 9) 4294967296) && leb (word_at w 10) 1
 
--- the settings that eleven words are read as
-unfoldable pub options_of : List ℕ → Options
-options_of w =
+-- the settings that eleven words are read as, with this plan
+unfoldable pub options_of : List ℕ → Plan → Options
+options_of w plan =
     options
     (of_bits binary64 (word_at w 1))
     (word_at w 2)
@@ -60,3 +61,4 @@ options_of w =
     (mode_of (word_at w 7))
     (kernel_of (word_at w 8) (word_at w 9))
     (flag_of (word_at w 10))
+    plan

@@ -1,7 +1,8 @@
--- Laws of texts placed one after the other, of their lengths, of what std prints, of numbers read digit by digit, and of what is written
--- and read back.
+-- Laws of texts placed one after the other, of their lengths, of what std prints, of numbers read digit by digit, of what is written and read
+-- back, and of the parts of a text.
 pub mod Writes
 pub mod Lengths
 pub mod Printed
 pub mod Numbers
 pub mod Back
+pub mod Parts

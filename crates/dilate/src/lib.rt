@@ -153,6 +153,8 @@ impl Columns {
 // Each byte of a frame of w columns and h rows becomes the largest in the k × k window about it, clipped to the frame.
 // The callers pass an odd k of at least 3. For any k the window reaches k / 2 to each side.
 // Kept: plain parameters, as the functions under the frame records have (RULES 16.1).
+// Not inlined: the buffer takes 4 KiB of stack, which a caller would then hold while it calls other functions.
+#[inline(never)]
 pub fn dilate(plane: &mut [u8], w: usize, h: usize, k: u32)
     requires w_bound { (w ≤ 4096) × (h ≤ 4096) }
     requires plane_len { length plane.old ≡ w * h }

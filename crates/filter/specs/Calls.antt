@@ -7,7 +7,7 @@ use Rattle.filter.specs.declared.Filter.{Filter}
 use Rattle.filter.specs.declared.FilterStep.{FilterStep}
 use Rattle.filter.specs.Flash.{fresh, flash_filter}
 
--- a frame: its stamp, and whether its score is at or over the threshold (RULES 6.7). Of a frame without a score `above` is never asked.
+-- a frame: its stamp, and whether its score is at or over its threshold (RULES 6.7). Of a frame without a score `above` is never asked.
 pub record Frame : Type 0 where
   pub stamp : Timestamp
   pub above : Bool

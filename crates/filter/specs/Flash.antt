@@ -1,5 +1,5 @@
 -- The filter rule (RULES 7): which scored frames of a stretch are cuts, in the mode Suppress and in the mode Merge, which takes the branches
--- of the Rust's `filter_merge`. A scored frame comes as its stamp and whether it is above, that is, its score at or over the threshold.
+-- of the Rust's `filter_merge`. A scored frame comes as its stamp and whether it is above, that is, its score at or over its threshold.
 use Rattle.std.specs.Prelude.{ℕ, Bool, false, cond, not, ◌&&◌, ◌||◌, leb, pos, ◌+ℤ◌, None, Option, Some}
 use Rattle.std.specs.Int.Signed.{le_z}
 use Rattle.timestamp.specs.declared.Timestamp.{Timestamp}

@@ -1,9 +1,10 @@
 -- The calls that both detectors take, and what a frame is to either of them: refused by the first number that applies (RULES 10.5), or the sums
 -- of its differences, the stream after it and the store after it (RULES 8.4, 12.3). A detector adds its own step (`outcome_of`).
-use Rattle.std.specs.Prelude.{◌≡◌, Bool, cond, not, List, [], ◌∷◌, ℕ, ◌<◌, eqb, ℤ, length, Result, Ok, Err}
+use Rattle.std.specs.Prelude.{◌≡◌, Bool, cond, not, List, [], ◌∷◌, ℕ, ◌<◌, eqb, ℤ, length, Option, None, Some, Result, Ok, Err}
 use Rattle.timestamp.specs.declared.Timestamp.{Timestamp}
 use Rattle.refusal.specs.declared.Refusal.{Refusal}
 use Rattle.refusal.specs.Refusal.{first_that, number_of}
+use Rattle.canny_marks.specs.Median.{median_of}
 use Rattle.frame.specs.Checks.{luma_refusal, bgr_refusal, hsv_refusal}
 use Rattle.score.specs.Scores.{edges_enabled}
 use Rattle.stream.specs.declared.Stream.{Stream}
@@ -52,34 +53,40 @@ pub record Outcome (A : Type 0) : Type 0 where
   pub answer : A
   pub store : List ℕ
 
--- what a frame is to either detector: the refusal's number or 0, the stream after it (refused: as it was) and the sums of its differences (refused:
--- all 0)
+-- what a frame is to either detector: the refusal's number or 0, the stream after it (refused: as it was), the sums of its differences (refused:
+-- all 0), and the median of its luma plane, or none where it is not wanted (refused: none)
 pub record PictureAnswer : Type 0 where
   pub number : ℕ
   pub stream : Stream
   pub sums : Sums
+  pub median : Option ℕ
 
 -- what the result of a frame says, where the stream before it is s
 abbrev pub picture_in : Stream → Result Picture Refusal → PictureAnswer
-picture_in s (Ok p) = record { number = 0; stream = p.stream; sums = p.sums }
-picture_in s (Err why) = record { number = number_of why; stream = s; sums = no_sums }
+picture_in s (Ok p) = record { number = 0; stream = p.stream; sums = p.sums; median = p.median }
+picture_in s (Err why) = record { number = number_of why; stream = s; sums = no_sums; median = None }
 
 -- the sums of the differences of an accepted frame's planes with the store (RULES 4.4); all are 0 where it is not scored (RULES 4.5)
 abbrev pub sums_of : PictureOptions → (scored : Bool) (width height : ℕ) → Planes → (store : List ℕ) → Sums
 sums_of o scored w h p store = frame_sums (edges_enabled o.weights) scored (kernel_of o.kernel_size w h) w h p store
 
--- an accepted frame: its sums, the stream after it with its score or none, and the store with its planes (RULES 8.4, 12.3)
+-- the median of a luma plane, where it is wanted (RULES 5.3, 18.5)
+abbrev pub median_if : (wanted : Bool) → (plane : List ℕ) → Option ℕ
+median_if wanted plane = cond wanted (Some (median_of plane)) None
+
+-- an accepted frame: its sums, the stream after it with its score or none, the median of its luma where it is wanted, and the store with its planes
+-- (RULES 8.4, 12.3)
 unfoldable pub accepted : Stream → PictureOptions → (width height : ℕ) → Planes → (store : List ℕ) → Outcome PictureAnswer
 accepted s o w h p store =
     let sums : Sums = sums_of o (is_scored s w h) w h p store in
     let after : List ℕ = store_after (edges_enabled o.weights) (kernel_of o.kernel_size w h) w h p store in
-    record { answer = record { number = 0; stream = next_stream s w h o.weights sums; sums = sums }; store = after }
+    record { answer = record { number = 0; stream = next_stream s w h o.weights sums; sums = sums; median = median_if o.wants_median p.luma }; store = after }
 
 -- a frame, accepted or refused. When it is refused there are no sums, and the stream and the store are as they were (RULES 10.3, 10.4).
 unfoldable pub pictured : Stream → PictureOptions → (bad : Bool) (refusal width height : ℕ) → Planes → Memory → Outcome PictureAnswer
 pictured s o bad u w h p m =
     let n = frame_number bad u w h m in
-    cond (eqb n 0) (accepted s o w h p m.store) (record { answer = record { number = n; stream = s; sums = no_sums }; store = m.store })
+    cond (eqb n 0) (accepted s o w h p m.store) (record { answer = record { number = n; stream = s; sums = no_sums; median = None }; store = m.store })
 
 -- a detector's answer to a frame: `stepped` of the frame's result when it is accepted, `refused` of the number when it is refused
 abbrev pub answered_by : {A : Type 0} → (stepped : PictureAnswer → A) → (refused : ℕ → A) → PictureAnswer → A

@@ -10,7 +10,7 @@ ghost use Rattle.refusal.specs.Refusal.{number_in};
 ghost use Rattle.frame.specs.Checks.{luma_refusal, bgr_refusal, hsv_refusal};
 ghost use Rattle.scoring.specs.Planes.{luma_frame, bgr_frame, hsv_frame, Planes, joined};
 ghost use Rattle.scoring.specs.Sums.{plane_sums};
-ghost use Rattle.frame_call.specs.Call.{memory, pictured, picture_in, Called, Sized};
+ghost use Rattle.frame_call.specs.Call.{memory, median_if, pictured, picture_in, Called, Sized};
 ghost use Rattle.frame_call.specs.PairMut.{FnOnceTakesAtPairMut, FnOnceReturnsAtPairMut};
 
 use refusal::Refusal;
@@ -18,18 +18,28 @@ use score::Components;
 use scoring::FrameScoring;
 use stream::{Stream, Sums};
 
-// The settings that a frame's picture is scored by.
+// What a detector wants of a frame's picture: the settings that it is scored by, and whether the median of its luma plane is wanted too.
 #[derive(Clone, Copy, Debug, PartialEq)]
 pub struct PictureOptions {
     pub weights: Components,
     pub kernel_size: Option<u32>,
+    pub wants_median: bool,
 }
 
-// What an accepted frame is, for either detector: the stream after it and the sums of its differences.
+// What an accepted frame is, for either detector: the stream after it, the sums of its differences, and the median of its luma plane, where it is
+// wanted.
 #[derive(Clone, Copy, Debug, PartialEq)]
 pub struct Picture {
     pub stream: Stream,
     pub sums: Sums,
+    pub median: Option<u8>,
+}
+
+// The median of a luma plane, where it is wanted; nothing is counted where it is not.
+fn median_if(wanted: bool, plane: &[u8]) -> Option<u8>
+    ensures { result ≡ median_if wanted plane.now }
+{
+    wanted.then(|| canny_marks::median_u8(plane))
 }
 
 // A frame of any kind, by its check: `replace` makes its planes take the place of the first three in the store, a BGR frame's by way of as
@@ -58,17 +68,21 @@ fn process<F: FnOnce(&mut [u8], &mut [u8]) -> Sums>(
     stream::check_memory(store.len(), scratch.len(), magnitudes.len(), width, height)?;
     let w = width as usize;
     let h = height as usize;
-    let e = 3 * (w * h);
+    let n = w * h;
+    let e = 3 * n;
+    let planes = replace(&mut store[..e], &mut scratch[..e]);
+    let median = median_if(o.wants_median, &store[n + n..e]);
     let how = FrameScoring {
         edges: score::edges_enabled(o.weights),
         k: scoring::kernel(o.kernel_size, width, height),
         scored: stream::is_scored(s, width, height),
+        median,
     };
-    let planes = replace(&mut store[..e], &mut scratch[..e]);
     let sums = scoring::frame_sums(store, scratch, magnitudes, w, h, how, planes);
     Ok(Picture {
         stream: stream::next_stream(s, width, height, o.weights, sums),
         sums,
+        median,
     })
 }
 

@@ -1,5 +1,4 @@
--- Laws of a line's fields taken one by one, of its values, and of the whole line; and sample lines.
-pub mod Fields
+-- Laws of a line's values, and of the whole line; and sample lines.
 pub mod Values
 pub mod Lines
 pub mod Told

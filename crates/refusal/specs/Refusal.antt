@@ -1,7 +1,7 @@
 -- A call is refused by the first of its conditions that holds; its number is 0 where none does (RULES 10.2).
 use Rattle.std.specs.Prelude.{Bool, cond, List, [], ◌∷◌, ℕ, Result, Ok, Err}
 use Rattle.refusal.specs.declared.Refusal.{Refusal}
-use Rattle.refusal.specs.declared.Refusal.TheVariants.{FrameTooLarge, StrideTooShort, DataTooShort, SaturationTooShort, ValueTooShort, WeightTooHeavy, NoWeight, BadKernel, NotANumber, NoWindow, WindowTooWide, StoreTooShort, ScratchTooShort, MagnitudesTooShort, BadState, NotAFrameLine, TooClose, ListFull, NotInList}
+use Rattle.refusal.specs.declared.Refusal.TheVariants.{FrameTooLarge, StrideTooShort, DataTooShort, SaturationTooShort, ValueTooShort, WeightTooHeavy, NoWeight, BadKernel, NotANumber, NoWindow, WindowTooWide, StoreTooShort, ScratchTooShort, MagnitudesTooShort, BadState, NotAFrameLine, TooClose, ListFull, NotInList, NotAPlan, MedianTwice, MedianMissing}
 
 -- the number of the first row whose condition holds, or 0: each row is a condition and its number, in the order in which they are tried
 abbrev pub first_that : List (Bool × ℕ) → ℕ
@@ -29,6 +29,9 @@ number_of NotAFrameLine = 16
 number_of TooClose = 17
 number_of ListFull = 18
 number_of NotInList = 19
+number_of NotAPlan = 20
+number_of MedianTwice = 21
+number_of MedianMissing = 22
 
 -- the number by which a check answers: 0 where it passes
 abbrev pub number_in : {A : Type 0} → Result A Refusal → ℕ

@@ -37,6 +37,12 @@ pub enum Refusal {
     TooClose = 17,
     ListFull = 18,
     NotInList = 19,
+    // A row of a light plan has another shape, its first number exceeds its second, or there are more than 16 rows.
+    NotAPlan = 20,
+    // Two rows of a light plan have one median.
+    MedianTwice = 21,
+    // No row of a light plan has some median.
+    MedianMissing = 22,
 }
 
 // What a refused call hands back: why, and the state that its caller goes on with.

@@ -26,7 +26,7 @@ fn one(run: Run, case: Case, k: u32) -> Run
     let luma = &mut luma[..n];
     let edges = &mut edges[..n];
     let x = replay::fill(luma, run.x, case.kind);
-    canny::edge_plane(luma, &mut mag[..n], edges, case.w, case.h, k);
+    canny::edge_plane(luma, None, &mut mag[..n], edges, case.w, case.h, k);
     Run {
         x,
         digest: run.digest.feed(edges),
@@ -90,7 +90,7 @@ fn frame<const N: usize>(luma: &[u8; N], w: usize, h: usize) -> Digest
 {
     let mut mag = [0i32; N];
     let mut edges = [0u8; N];
-    canny::edge_plane(luma, &mut mag, &mut edges, w, h, 3);
+    canny::edge_plane(luma, None, &mut mag, &mut edges, w, h, 3);
     Digest::empty().feed(&edges)
 }
 

@@ -8,6 +8,7 @@ use Rattle.filter.specs.declared.FilterMode.{FilterMode}
 use Rattle.filter.specs.declared.FilterMode.TheVariants.{Suppress, Merge}
 use Rattle.content.specs.declared.Options.{Options}
 use Rattle.content.specs.declared.Detector.{Detector}
+use Rattle.light_plan.specs.Plan.{no_plan}
 use Rattle.content.specs.Options.{options}
 use Rattle.content.specs.State.{Answer, cleared_answer, settled}
 use Rattle.frame_call.specs.Call.{Outcome, luma, memory}
@@ -33,7 +34,7 @@ minimum_of b =
     0
 
 abbrev pub options_of : ℕ → ℕ → ℕ → ℕ → Options
-options_of b1 b2 b3 b4 = options (float 27) (minimum_of b4) (weights_of b3) (mode_of b1) None (eqb (b2 % 2) 1)
+options_of b1 b2 b3 b4 = options (float 27) (minimum_of b4) (weights_of b3) (mode_of b1) None (eqb (b2 % 2) 1) no_plan
 
 -- the stride of a frame, by its action: 0 for action 1, which is refused by 2 (RULES 2.6), otherwise 1
 abbrev pub stride_of : ℕ → ℕ

@@ -3,7 +3,7 @@
 use mathlib.Core.Path.{◌≡◌, refl, sym, ap, ◌∙◌}
 use mathlib.Core.Bool.{Bool, true, false, cond}
 use mathlib.Core.List.{List, ◌++◌, append_assoc}
-use Prim.Native.Nat.{ℕ, ◌+◌, ◌*◌}
+use Prim.Native.Nat.{ℕ, ◌+◌, ◌-◌, ◌*◌}
 use native.Mathlib.Omega.{arith}
 use lib.ListN.{length, take, drop, take-append-drop, length-append}
 use Rattle.laws.proofs.Joined.{first_part, after-part}
@@ -44,6 +44,10 @@ module _ (w h k : ℕ) (p : Planes) (before : List ℕ) (hues : length p.hue ≡
       sym (luma_of n store (omega (arith, length-append (joined p) others, long)))
       ∙ ap (λ (l : List ℕ). drop (n + n) l) (planes-are ∙ sym (append_assoc p.hue p.saturation p.luma))
       ∙ after-part (p.hue ++ p.saturation) p.luma (n + n) (omega (arith, length-append p.hue p.saturation, hues, saturations))
+
+  -- the third of the planes that took their places
+  pub third_is : take (3 * n - (n + n)) (drop (n + n) store) ≡ p.luma
+  third_is = let e : 3 * n - (n + n) ≡ n = omega arith in rw e luma-is
 
   edges-are : edge_part n store ≡ edge_part n before
   edges-are = ap (λ (l : List ℕ). take n l) others-are

@@ -6,12 +6,13 @@
 // Kept, point 2: luma, BGR and HSV planes come in three ways, a function for each.
 #![tactic(auto)]
 
-ghost use Rattle.std.specs.Prelude.{◌≡◌, cond, ℕ, ◌+◌, ◌*◌, ◌<◌, ◌≤◌, length};
+ghost use Rattle.std.specs.Prelude.{◌≡◌, cond, ℕ, ◌+◌, ◌*◌, ◌<◌, ◌≤◌, length, IfSome};
 ghost use Rattle.scoring.specs.Planes.{joined, luma_frame, bgr_frame, hsv_frame, luma_part, edge_part};
 ghost use Rattle.scoring.specs.Sums.{plane_sums, kernel_of};
 ghost use Rattle.scoring.specs.Replaced.{with_edge_plane, with_edge_sum};
 ghost use Rattle.arch_planes.specs.Difference.{sum_abs_diff};
 ghost use Rattle.stream.specs.Stream.{no_sums};
+ghost use Rattle.canny_marks.specs.Median.{median_of};
 ghost use Rattle.canny.specs.Edges.{edge_plane};
 
 use stream::Sums;
@@ -102,9 +103,11 @@ fn replace_edges(
     w: usize,
     h: usize,
     k: u32,
+    median: Option<u8>,
 ) -> u32
     requires sides { (w ≤ 4096) × (h ≤ 4096) }
     requires store_room { w * h + (w * h + (w * h + w * h)) ≤ length store.old }
+    requires known { IfSome median (λ m. m ≡ median_of (luma_part (w * h) store.old)) }
     requires scratch_room { w * h ≤ length scratch.old }
     requires mag_room { w * h ≤ length mag.old }
     ensures value { result ≡ sum_abs_diff (edge_plane (luma_part (w * h) store.old) w h k) (edge_part (w * h) store.old) }
@@ -114,7 +117,7 @@ fn replace_edges(
     let (planes, rest) = store.split_at_mut(n + (n + n));
     let (stored, _) = rest.split_at_mut(n);
     let made = &mut scratch[..n];
-    canny::edge_plane(&planes[n + n..], &mut mag[..n], made, w, h, k);
+    canny::edge_plane(&planes[n + n..], median, &mut mag[..n], made, w, h, k);
     arch_planes::replace_plane(stored, made, w, h, w)
 }
 
@@ -125,13 +128,14 @@ pub fn kernel(kernel_size: Option<u32>, width: u32, height: u32) -> u32
     kernel_size.unwrap_or_else(|| canny_marks::auto_kernel_size(width, height))
 }
 
-// How a frame is scored: whether edges are on, the side k of the window around an edge, and whether a frame of the same size came before it
-// in the stretch, which it is compared with (RULES 6.5).
+// How a frame is scored: whether edges are on, the side k of the window around an edge, whether a frame of the same size came before it
+// in the stretch, which it is compared with (RULES 6.5), and the median of its luma plane, where it is known already.
 #[derive(Clone, Copy)]
 pub struct FrameScoring {
     pub edges: bool,
     pub k: u32,
     pub scored: bool,
+    pub median: Option<u8>,
 }
 
 // These sums of a scored frame, and none of another.
@@ -157,11 +161,12 @@ pub fn frame_sums(
     requires store_room { w * h + (w * h + (w * h + w * h)) ≤ length store.old }
     requires scratch_room { w * h ≤ length scratch.old }
     requires mag_room { w * h ≤ length mag.old }
+    requires known { IfSome how.median (λ m. m ≡ median_of (luma_part (w * h) store.old)) }
     ensures value { result ≡ cond how.scored (cond how.edges (with_edge_sum sums (sum_abs_diff (edge_plane (luma_part (w * h) store.old) w h how.k) (edge_part (w * h) store.old))) sums) no_sums }
     ensures store_after { store.new ≡ cond how.edges (with_edge_plane (w * h) (edge_plane (luma_part (w * h) store.old) w h how.k) store.old) store.old }
 {
     if how.edges {
-        let edges = replace_edges(store, scratch, mag, w, h, how.k);
+        let edges = replace_edges(store, scratch, mag, w, h, how.k, how.median);
         sums_if(how.scored, Sums { edges, ..sums })
     } else {
         sums_if(how.scored, sums)

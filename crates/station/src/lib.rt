@@ -22,13 +22,14 @@ ghost use Rattle.station_answer.specs.Sizes.{store_bytes, scratch_bytes, magnitu
 pub mod adaptive_exports;
 pub mod content_exports;
 pub mod list_exports;
+pub mod plan_exports;
 
 // The library's version: the major number times 65,536, the minor times 256, the patch.
 #[unsafe(no_mangle)]
 pub extern "C" fn mw_version() -> u32
-    ensures { result ≡ 0x000400 }
+    ensures { result ≡ 0x000500 }
 {
-    0x000400
+    0x000500
 }
 
 // How many words a content state has.
@@ -37,7 +38,7 @@ pub extern "C" fn mw_version() -> u32
 pub extern "C" fn mw_content_words() -> u64
     ensures { (d : Detector) → result ≡ length (content_words d) }
 {
-    27
+    34
 }
 
 // How many words an adaptive state has.

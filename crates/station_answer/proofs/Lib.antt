@@ -1,3 +1,4 @@
 pub mod Enough
 pub mod Refused
 pub mod Shown
+pub mod Tidied

@@ -17,12 +17,13 @@ use refusal::Refused;
 use timestamp::Timestamp;
 use words::Recorded;
 
-// An accepted frame: its new state and its answer are written. A refused one changes no word.
+// An accepted frame: its new state, which reads back, and its answer are written. A refused one changes no word.
 fn finish<R: Recorded<N>, const N: usize>(
     state: &mut [u64; N],
     answer: &mut [u64; 13],
     r: Result<Step<R::State>, Refused<R::State>>,
 ) -> u32
+    requires { R.tidied (answer_in r).detector ≡ (answer_in r).detector }
     ensures number { result ≡ (answer_in r).number }
     ensures state_after { state.new ≡ after result (R.words_of (answer_in r).detector) state.old }
     ensures state_back { result ≡ 0 → R.held_by state.new ≡ (answer_in r).detector }
@@ -40,6 +41,7 @@ fn finish<R: Recorded<N>, const N: usize>(
 }
 
 // A luma frame.
+#[tactic(auto, using(crate::proofs::Tidied::answer_tidied))]
 pub fn process_luma<R: Recorded<N>, const N: usize>(
     state: &mut [u64; N],
     answer: &mut [u64; 13],
@@ -69,6 +71,7 @@ pub fn process_luma<R: Recorded<N>, const N: usize>(
 }
 
 // A BGR frame.
+#[tactic(auto, using(crate::proofs::Tidied::answer_tidied))]
 pub fn process_bgr<R: Recorded<N>, const N: usize>(
     state: &mut [u64; N],
     answer: &mut [u64; 13],
@@ -98,6 +101,7 @@ pub fn process_bgr<R: Recorded<N>, const N: usize>(
 }
 
 // An HSV frame.
+#[tactic(auto, using(crate::proofs::Tidied::answer_tidied))]
 pub fn process_hsv<R: Recorded<N>, const N: usize>(
     state: &mut [u64; N],
     answer: &mut [u64; 13],
@@ -143,11 +147,12 @@ pub fn clear<R: Recorded<N>, const N: usize>(state: &mut [u64; N]) -> u32
     }
 }
 
-// What a settings call gives: a fresh state, with the defaults where the settings are refused.
+// What a settings call gives: a fresh state, which reads back, with the defaults where the settings are refused.
 pub fn settle<R: Recorded<N>, const N: usize>(
     state: &mut [u64; N],
     r: Result<R::State, Refused<R::State>>,
 ) -> u32
+    requires { R.tidied (settled_in r).detector ≡ (settled_in r).detector }
     ensures { SettingsContract (layout R.words_of R.held_by R.State.settings) (started_by (settled_in r)) result state.new }
 {
     match r {

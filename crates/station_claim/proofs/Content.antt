@@ -2,7 +2,7 @@
 -- from the words that a settings call wrote. It rests on the contracts of the station's calls and assumes nothing else.
 use Rattle.std.proofs.Common.{None, Option}
 use mathlib.Core.Path.{◌≡◌, refl, ap, ◌∙◌}
-use mathlib.Core.Bool.{Bool, true, false, cond, not}
+use mathlib.Core.Bool.{Bool, true, false}
 use mathlib.Core.List.{List, [], ◌∷◌, map}
 use Prim.Native.Nat.{ℕ, ◌<◌}
 use borrow.Author.Tests.{eqb-true}
@@ -13,7 +13,7 @@ use Rattle.filter.specs.Calls.{Answered, ◌brought◌}
 use Rattle.laws.specs.Lists.{All}
 use Rattle.content.specs.declared.Options.{Options}
 use Rattle.content.specs.declared.Detector.{Detector}
-use Rattle.content.specs.Options.{defaults, picture_options, options_refusal}
+use Rattle.content.specs.Options.{with_plan, defaults, picture_options, options_refusal}
 use Rattle.content.specs.State.{Answer, fresh, bad_state, settled, cleared_answer}
 use Rattle.content.specs.Step.{stepped, called}
 use Rattle.frame_call.specs.Call.{Call}
@@ -25,7 +25,10 @@ use Rattle.content_words.specs.Calls.{accepted}
 use Rattle.station_answer.specs.Promises.{SettingsContract}
 use Rattle.station_answer.specs.Calls.{started_by}
 use Rattle.station_answer.proofs.Refused.{refused_none as none-refused}
-use Rattle.content_station.specs.Station.{content_layout, content_call, settings_number, settled_by}
+use Rattle.content_station.specs.Station.{content_layout, content_call, settings_number, settled_by, planned_number, planned_by}
+use Rattle.content_station.proofs.Planned.{first-zero, planned-accepted}
+use Rattle.light_plan.specs.Plan.{plan_of}
+use Rattle.plan_text.specs.Text.{rows_in}
 use Rattle.station_claim.specs.Run.{StationCall, MadeFrom}
 use Rattle.station_claim.specs.Claim.{with_cut_read, ContentSpacing}
 use Rattle.station_claim.proofs.Runs.{Heard, heard_from, heard_by, heard-is, each-is}
@@ -94,14 +97,6 @@ module _ (o : Options) (ok : options_refusal o ≡ 0) (s : List ℕ) (ys : List 
 
 -- ---- from the words that a settings call wrote
 
--- settings that no row refuses are settings that 6 to 9 do not refuse
-first-zero : (n : ℕ) (b : Bool) → cond (not (eqb n 0)) n (cond b 15 0) ≡ 0 → n ≡ 0
-first-zero n b e = by_zero (eqb n 0) refl e
-  where
-    by_zero : (z : Bool) → eqb n 0 ≡ z → cond (not z) n (cond b 15 0) ≡ 0 → n ≡ 0
-    by_zero true p q = eqb-true n 0 p
-    by_zero false p q = q
-
 settings-by : (mode : ℕ) (o : Options) (s : List ℕ) (ys : List StationCall) → content_of s ≡ (settled_by mode o).detector → MadeFrom content_layout content_call s ys
     → ContentSpacing (settled_by mode o).detector.options s ys
 unfolding settled_by
@@ -115,6 +110,21 @@ settings-by mode o s ys held made = by-refused (eqb (settings_number mode o) 0) 
 pub after-new : (mode : ℕ) (o : Options) (r : ℕ) (s : List ℕ) → SettingsContract content_layout (started_by (settled_by mode o)) r s
     → (ys : List StationCall) → MadeFrom content_layout content_call s ys → ContentSpacing (settled_by mode o).detector.options s ys
 after-new mode o r s wrote ys made = settings-by mode o s ys wrote.read_back made
+
+-- settings with a light plan's text, accepted or refused
+planned-settings : (mode : ℕ) (o : Options) (text s : List ℕ) (ys : List StationCall) → content_of s ≡ (planned_by mode o text).detector
+    → MadeFrom content_layout content_call s ys → ContentSpacing (planned_by mode o text).detector.options s ys
+unfolding planned_by
+planned-settings mode o text s ys held made = by-refused (eqb (planned_number mode o text) 0) refl
+  where
+    by-refused : (b : Bool) → eqb (planned_number mode o text) 0 ≡ b → ContentSpacing (planned_by mode o text).detector.options s ys
+    by-refused true e =
+        rw e (content-spacing (with_plan o (plan_of (rows_in text))) (planned-accepted mode o text (eqb-true _ 0 e)) s ys (rw e at held) made)
+    by-refused false e = rw e (content-spacing defaults defaults-accepted s ys (rw e at held) made)
+
+pub after-planned : (mode : ℕ) (o : Options) (text : List ℕ) (r : ℕ) (s : List ℕ) → SettingsContract content_layout (started_by (planned_by mode o text)) r s
+    → (ys : List StationCall) → MadeFrom content_layout content_call s ys → ContentSpacing (planned_by mode o text).detector.options s ys
+after-planned mode o text r s wrote ys made = planned-settings mode o text s ys wrote.read_back made
 
 -- the default settings
 pub after-default : (r : ℕ) (s : List ℕ) → SettingsContract content_layout (started_by (settled defaults)) r s

@@ -27,6 +27,10 @@ pub trait Recorded<const N: usize> {
     // The state that words hold.
     ghost held_by: { List ℕ → Self.State };
 
+    // The state that a state's words read back as: it may leave out what nothing looks at. What words hold reads back as itself, and so does what a call
+    // leaves of it; by that the calls' contracts promise that a state reads back in full.
+    ghost tidied: { Self.State → Self.State };
+
     // The state that the words hold. Any N words are read.
     fn read(w: &[u64; N]) -> Self::State
         ensures { result ≡ held_by w.now };
@@ -34,10 +38,18 @@ pub trait Recorded<const N: usize> {
     // Writes a state, which reads back.
     fn write(d: Self::State, out: &mut [u64; N])
         ensures after { out.new ≡ words_of d }
-        ensures back { held_by out.new ≡ d };
+        ensures back { held_by out.new ≡ tidied d };
 
     // The answer to an accepted frame has no refusal's number.
     ghost accepted: { (d : Self.State) (ts : Timestamp) (p : PictureAnswer) → (Self.State.stepped d ts p).number ≡ 0 };
+
+    // Words hold a tidied state, and from one a frame and `clear` make one.
+    ghost held_tidied: { (w : List ℕ) → tidied (held_by w) ≡ held_by w };
+
+    ghost step_tidied: { (d : Self.State) (ts : Timestamp) (p : PictureAnswer) → tidied d ≡ d
+        → tidied (Self.State.stepped d ts p).detector ≡ (Self.State.stepped d ts p).detector };
+
+    ghost clear_tidied: { (d : Self.State) → tidied d ≡ d → tidied (Self.State.cleared d).detector ≡ (Self.State.cleared d).detector };
 
     // Where `clear` is refused, it gives the state back.
     ghost stays: { (d : Self.State) → (Self.State.cleared d).number ≢ 0 → (Self.State.cleared d).detector ≡ d };

@@ -21,6 +21,22 @@ fn the_demo_is_the_same_each_time_and_as_stored() {
     assert!(runs[0].1 == stored("docs/demo.svg"), "make it again: ./film --demo --plot docs/demo.svg");
 }
 
+/// The shots that follow each other in the dim room are found by the plan alone, and the shadow by neither.
+#[test]
+fn a_plan_for_the_dim_demo() {
+    let room = Room::new();
+    room.with("room.plan", b"0,79,5\n80,255,27\n");
+    let starts = |words: &str| {
+        let line = format!("--demo --dim --weights 0,0,1,0 --mode suppress --json {words}");
+        let list = lists::json(&room.film(&line, &[]).well());
+        assert_eq!(list.frames, 475);
+        list.clips.iter().skip(1).map(|clip| clip.first).collect::<Vec<_>>()
+    };
+    assert_eq!(starts("--plan room.plan"), [101, 176, 251, 326, 401]);
+    assert_eq!(starts(""), [101, 176, 401]);
+    assert_eq!(starts("--threshold 5"), [41, 71, 101, 176, 251, 326, 401]);
+}
+
 #[test]
 fn both_detectors_cut_the_demo() {
     for words in ["", "--mode suppress", "--detector adaptive"] {

@@ -161,6 +161,7 @@ pub struct Stat {
     pub deltas: [Option<f64>; 4],
     pub ratio: Option<f64>,
     pub cut: bool,
+    pub median: u8,
 }
 
 /// Reads `--stats`; of the adaptive detector, that has this window.
@@ -168,20 +169,21 @@ pub fn stats(text: &str, window: Option<usize>) -> Vec<Stat> {
     let mut lines = text.lines();
     let ratio = window.map_or(String::new(), |window| format!("adaptive_ratio (w={window}),"));
     let head = "Frame Number,Timecode,Timestamp (us),content_val,delta_hue,delta_sat,delta_lum,delta_edges,";
-    assert_eq!(lines.next(), Some(&*format!("{head}{ratio}cut")));
+    assert_eq!(lines.next(), Some(&*format!("{head}{ratio}cut,luma_median")));
     lines.enumerate().map(|(place, line)| stat(place, line, window.is_some())).collect()
 }
 
 fn stat(place: usize, line: &str, adaptive: bool) -> Stat {
     let mut cells: Vec<&str> = line.split(',').collect();
     let ratio = if adaptive { cells.remove(8) } else { "" };
-    assert_eq!((number::<usize>(cells[0]), cells.len()), (place + 1, 9), "{line}");
+    assert_eq!((number::<usize>(cells[0]), cells.len()), (place + 1, 10), "{line}");
     let some = |cell: &str| (!cell.is_empty()).then(|| number::<f64>(cell));
     let at = number(cells[2]);
     assert_eq!(cells[1], timecode(at));
     assert!(["0", "1"].contains(&cells[8]), "{line}");
     let deltas = [4, 5, 6, 7].map(|column| some(cells[column]));
-    Stat { at, score: some(cells[3]), deltas, ratio: some(ratio), cut: cells[8] == "1" }
+    let (score, cut, median) = (some(cells[3]), cells[8] == "1", number(cells[9]));
+    Stat { at, score, deltas, ratio: some(ratio), cut, median }
 }
 
 /// Compares two lists, and says where they differ first.

@@ -33,12 +33,21 @@ fn seed(first: i64, min_duration: u64, initial_cut: bool) -> i64 {
 
 /// The places of the frames that are cuts, and the stamp of the cut that a merge holds back at the end.
 pub fn content(settings: &Content, frames: &[Scored]) -> (Vec<usize>, Option<i64>) {
+    content_by(settings, frames, |_| settings.threshold)
+}
+
+/// The same where each frame, by its place, has a threshold of its own.
+pub fn content_by(
+    settings: &Content,
+    frames: &[Scored],
+    threshold: impl Fn(usize) -> f64,
+) -> (Vec<usize>, Option<i64>) {
     let mut cuts = Vec::new();
     let (mut last, mut last_place) = (None, 0);
     let mut merge = None;
     for (place, &(at, score)) in frames.iter().enumerate() {
         let Some(score) = score else { continue };
-        let above = score >= settings.threshold;
+        let above = score >= threshold(place);
         let before = *last.get_or_insert(seed(at, settings.min_duration, settings.initial_cut));
         let late = past(at, before, settings.min_duration);
         if settings.suppress {

@@ -72,6 +72,11 @@ fn command_lines_that_are_refused() {
         "- --detector both",
         "- --mode both",
         "- --mode merge --detector adaptive",
+        "- --plan",
+        "- --plan room.plan --detector adaptive",
+        "- --dim",
+        "film.mp4 --dim",
+        "--demo --dim=yes",
         "- --window 3",
         "- --min-content 3",
         "- --weights 1,2,3",
@@ -129,9 +134,18 @@ fn the_help_is_a_page_with_two_examples() {
         assert_eq!((ended.status, &*ended.said), (Some(0), ""), "{line}");
         let examples = ended.out.lines().filter(|line| line.starts_with("    ") && line.contains("./film ")).count();
         assert!(examples >= 2 && ended.out.lines().count() <= 60, "{}", ended.out);
-        for flag in
-            ["--demo", "--raw", "--scale", "--detector", "--weights", "--json", "--stats", "--plot", "--version"]
-        {
+        for flag in [
+            "--demo",
+            "--raw",
+            "--scale",
+            "--detector",
+            "--plan",
+            "--weights",
+            "--json",
+            "--stats",
+            "--plot",
+            "--version",
+        ] {
             assert!(ended.out.contains(flag), "{flag}");
         }
     }

@@ -4,7 +4,7 @@ use native.Mathlib.Omega.{arith}
 use Prim.Native.Nat.{◌*◌}
 use Rattle.std.proofs.Common.{rules}
 use Rattle.stream.specs.Stream.{memory_refusal}
-use Rattle.scoring.proofs.Stored.{sums-are, store_is}
+use Rattle.scoring.proofs.Stored.{sums-are, store_is, third_is}
 use Rattle.frame_call.specs.Call.{call_refusal, accepted}
 use Rattle.frame_call.proofs.Planes.{replaced}
 use Rattle.frame_call.proofs.Returned.{called-accepted}
@@ -23,7 +23,8 @@ returns g c p sized replaces =
     let sums = sums-are w h k p store sized.hues sized.saturations sized.lumas edges c.is_scored.result in
     let after = store_is w h k p store sized.hues sized.saturations sized.lumas edges in
     let framed = c.frame_sums-sums.ensures in
+    let third = third_is w h k p store sized.hues sized.saturations sized.lumas in
     called-accepted _ _ _ _ _ _ _ _ _ _
     (rw (c.if-bad.false, c.in_ok-frame.was, sym c.in_ok-check_memory.ensures))
-    (cc (c.next_stream.ensures, framed.value, r.0, r.1, sums, c.edges_enabled.ensures, c.kernel.ensures, c.is_scored.ensures))
+    (cc (c.next_stream.ensures, framed.value, r.0, r.1, sums, c.edges_enabled.ensures, c.kernel.ensures, c.is_scored.ensures, c.median_if-median.ensures, third))
     (cc (framed.store_after, r.0, after, c.edges_enabled.ensures, c.kernel.ensures)) (omega arith) (omega arith)

@@ -5,4 +5,4 @@ use Rattle.compare_content_lists.proofs.state.settings.Goals as goal
 
 pub returns : goal.returns
 unfolding settings_of div of_int of_bits
-returns c = simp (c.initial_cut.ensures, c.kernel.ensures, c.filter_mode.ensures, c.byte-3.ensures.value, c.weights.ensures, c.minimum.ensures, c.threshold.ensures, c.byte-2.ensures.value, c.byte.ensures.value)
+returns c = simp (c.initial_cut.ensures, c.kernel.ensures, c.filter_mode.ensures, c.byte-3.ensures.value, c.weights.ensures, c.minimum.ensures, c.plan_by.ensures, c.byte-4.ensures.value, c.byte-5.ensures.value, c.byte-6.ensures.value, c.threshold.ensures, c.byte-2.ensures.value, c.byte.ensures.value)

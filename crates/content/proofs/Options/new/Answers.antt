@@ -4,4 +4,4 @@ use Rattle.content.proofs.Options.new.Goals as goal
 
 pub returns : goal.returns
 unfolding of_int of_bits
-returns c = rw c.default.ensures
+returns c = rw (c.default.ensures, c.none.ensures)
