@@ -9,8 +9,7 @@ use Rattle.filter.specs.declared.FilterMode.{FilterMode}
 use Rattle.filter.specs.declared.FilterMode.TheVariants.{Suppress, Merge}
 use Rattle.content.specs.declared.Options.{Options}
 use Rattle.content.specs.declared.Detector.{Detector}
-use Rattle.content.specs.Options.{options}
-use Rattle.light_plan.specs.declared.Plan.{Plan}
+use Rattle.content.specs.Options.{options, with_plan}
 use Rattle.light_plan.specs.Rows.{row}
 use Rattle.compare_content_lists.specs.Plans.{plan_by, one_row, counted}
 use Rattle.compare_lists.specs.Records.{byte_of, threshold_of, weights_of, kernel_of, minimum_of, initial_cut_of, too_high}
@@ -40,10 +39,6 @@ triggered_of f = record { last_above = f.last_above; merge_enabled = f.merge_ena
 abbrev pub without_threshold : Options → Options
 without_threshold o = options nan o.min_duration o.weights o.filter_mode o.kernel_size o.initial_cut o.plan
 
--- another light plan
-abbrev pub planned : Options → Plan → Options
-planned o p = options o.threshold o.min_duration o.weights o.filter_mode o.kernel_size o.initial_cut p
-
 -- a state with other settings
 abbrev pub with_options : Detector → Options → Detector
 with_options d o = record { options = o; stream = d.stream; filter = d.filter }
@@ -63,5 +58,5 @@ spoiled_by d how =
     (with_options d (without_threshold d.options))
     (cond
     (eqb how 3)
-    (with_options d (planned d.options (counted 17 d.options.plan)))
-    (with_options d (planned d.options (one_row (row 0 254 0)))))))
+    (with_options d (with_plan d.options (counted 17 d.options.plan)))
+    (with_options d (with_plan d.options (one_row (row 0 254 0)))))))
