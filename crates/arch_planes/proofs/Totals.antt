@@ -1,12 +1,15 @@
--- Sums taken in parts, and the sum of the differences of two planes by rows.
-use mathlib.Core.Path.{◌≡◌, refl, sym, ◌∙◌}
-use mathlib.Core.List.{List}
+-- Sums taken in parts, and the sum of the differences of two planes by rows and by pieces.
+use mathlib.Core.Path.{◌≡◌, refl, sym, ap, ◌∙◌}
+use mathlib.Core.List.{List, ◌∷◌, ◌++◌}
 use Prim.Native.Nat.{ℕ, zero, suc, ◌+◌, ◌-◌, ◌*◌, ◌/◌, ◌%◌, ◌<◌, ◌≤◌}
 use native.Mathlib.Omega.{arith}
-use lib.ListN.{length, take, drop, get_or, replicate, get_or-replicate}
+use lib.ListN.{length, take, drop, length-drop, get_or, get_or-append, replicate, length-replicate, get_or-replicate}
+use lib.Seq.{get_or-take, get_or-drop, get_or-append-add, length-take-le, take_at, drop_at}
+use borrow.Rule.Slice.PartMut.{put_mid}
+use Rattle.std.proofs.lemmas.List.{take_rest, drop_all, take-replicate, append-nil, length-append}
 use Rattle.laws.specs.Lists.{tabulate, sum}
 use Rattle.laws.proofs.Sums.{sum_bound}
-use Rattle.laws.proofs.Grid.{col-lt}
+use Rattle.laws.proofs.Grid.{col-lt, place}
 use Rattle.laws.proofs.Tab.{length-tabulate, get_d_tabulate, is-tabulate}
 use Rattle.laws.proofs.Parts.{get_d_part, length_part}
 use Rattle.laws.proofs.Planes.{width, get_d-plane}
@@ -35,6 +38,29 @@ zeros_packed n w h e =
     let f : ℕ → ℕ = λ i. get_or (replicate n 0) ((i / w) * 0 + i % w) 0 in
     is-tabulate 0 (tabulate (w * h) f) (w * h) (λ _. 0) (length-tabulate (w * h) f)
     (λ i b. get_d_tabulate (w * h) f 0 i b ∙ get_or-replicate {A = ℕ} n ((i / w) * 0 + i % w) 0 0 (omega (arith, col-lt i w h b)))
+
+-- rows that lie one after the other are one piece
+pub close_packed : (src : List ℕ) (w h : ℕ) → w * h ≤ length src → packed src w h w ≡ take (w * h) src
+unfolding packed
+close_packed src w h inside =
+    sym
+    (is-tabulate 0 (take (w * h) src) (w * h) (λ i. get_or src ((i / w) * w + i % w) 0) (length-take-le (w * h) src inside)
+    (λ i b. get_or-take (w * h) src i 0 b ∙ ap (λ (k : ℕ). get_or src k 0) (sym (place i w))))
+
+-- and end where the last of them ends
+pub close_end : (w h n : ℕ) → ((y : ℕ) → y < h → y * w + w ≤ n) → w * h ≤ n
+close_end w zero n p = omega arith
+close_end w (suc h) n p = omega (arith, p h (omega arith))
+
+-- a part of a run of zeros, and zeros after zeros
+pub zeros_taken : (n m : ℕ) → n ≤ m → take {A = ℕ} n (replicate m 0) ≡ tabulate n (λ _. 0)
+zeros_taken n m b =
+    take-replicate {X = ℕ} n m 0 b ∙ is-tabulate 0 (replicate n 0) n (λ _. 0) (length-replicate n 0) (λ i h. get_or-replicate {A = ℕ} n i 0 0 h)
+
+pub zeros_joined : (m n k : ℕ) → m + n ≡ k → ◌++◌ {A = ℕ} (tabulate m (λ _. 0)) (tabulate n (λ _. 0)) ≡ tabulate k (λ _. 0)
+unfolding tabulate
+zeros_joined zero n k e = let z : n ≡ k = omega (arith, e) in rw z refl
+zeros_joined (suc m) n k e = let z : k ≡ suc (m + n) = omega (arith, e) in rw z (ap (λ (l : List ℕ). 0 ∷ l) (zeros_joined m n (m + n) refl))
 
 -- the differences below place n
 abbrev pub below : List ℕ → List ℕ → ℕ → ℕ
@@ -93,3 +119,32 @@ above_all src dst w h stride y e =
     let n : length (packed src w h stride) ≡ w * h = length-tabulate (w * h) _ in
     let m : h * w ≡ w * h = omega arith in
     rw (e, n, m) refl
+
+-- of two pieces, one after the other
+two_pieces : (s₁ s₂ t : List ℕ) (n x y : ℕ) → length s₁ ≡ n → x ≡ sum_abs_diff s₁ (take n t) → y ≡ sum_abs_diff s₂ (drop n t) → x + y ≡ sum_abs_diff (s₁ ++ s₂) t
+unfolding sum_abs_diff
+two_pieces s₁ s₂ t n x y e p q =
+    let f : ℕ → ℕ = λ i. dist (get_or (s₁ ++ s₂) i 0) (get_or t i 0) in
+    let first : sum n (λ i. dist (get_or s₁ i 0) (get_or (take n t) i 0)) ≡ sum n f =
+    sum-same n _ _ (λ i b. rw (get_or-append s₁ s₂ 0 i (omega (arith, e)), get_or-take n t i 0 b) refl) in
+    let after : (j : ℕ) → get_or (s₁ ++ s₂) (n + j) 0 ≡ get_or s₂ j 0 = rw (sym e) (λ j. get_or-append-add s₁ s₂ j 0) in
+    let second : sum (length s₂) (λ i. dist (get_or s₂ i 0) (get_or (drop n t) i 0)) ≡ sum (length s₂) (λ j. f (n + j)) =
+    sum-same (length s₂) _ _ (λ j b. rw (after j, get_or-drop n t j 0) refl) in
+    let long : length (s₁ ++ s₂) ≡ n + length s₂ = omega (arith, length-append s₁ s₂, e) in
+    rw long (omega (arith, rw e at p, q, first, second, sum-add n (length s₂) f))
+
+-- the same of t where the first piece has become s₁ when the second is compared
+pub pieces_summed : (s₁ s₂ s t new : List ℕ) (n x y : ℕ) → length s₁ ≡ n → s₁ ++ s₂ ≡ s → new ≡ s₁ → x ≡ sum_abs_diff s₁ (take n t)
+    → y ≡ sum_abs_diff s₂ (take (length (new ++ drop n t) - n) (drop n (new ++ drop n t))) → x + y ≡ sum_abs_diff s t
+pieces_summed s₁ s₂ s t new n x y e whole z p q =
+    let rest = take_rest (new ++ drop n t) n ∙ drop_at new (drop n t) n (rw z e) in
+    let both = two_pieces s₁ s₂ t n x y e p (rw rest at q) in
+    rw whole at both
+
+-- and t in the end
+pub pieces_put : (s₁ s₂ s t new back : List ℕ) (n : ℕ) → length s₁ ≡ n → s₁ ++ s₂ ≡ s → new ≡ s₁ → back ≡ s₂
+    → put_mid n (length (new ++ drop n t) - n) (new ++ drop n t) back ≡ s
+pieces_put s₁ s₂ s t new back n e whole z p =
+    let front = take_at s₁ (drop n t) n e in
+    let none = drop_all (length (s₁ ++ drop n t) - n) (drop n (s₁ ++ drop n t)) (omega (arith, length-drop n (s₁ ++ drop n t))) in
+    rw (z, p, front, none, append-nil s₂) whole

@@ -81,11 +81,12 @@ fn replace_row(dst: &mut [u8], src: &[u8]) -> u32
 
 // dst becomes the rows of src, packed as by `copy_plane`. The whole sum of their differences with what dst had, taken row by row, so that a
 // row is still at hand when it is copied.
-pub fn replace_plane(dst: &mut [u8], src: &[u8], w: usize, h: usize, stride: usize) -> u32
+fn replace_rows(dst: &mut [u8], src: &[u8], w: usize, h: usize, stride: usize) -> u32
     requires dst_len { length dst.old ≡ w * h }
     requires dst_len_bound { w * h ≤ 2 ^ 24 }
     requires by_index { (y : ℕ) → y < h → y * stride + w ≤ length src.now }
     ensures value { result ≡ sum_abs_diff (packed src.now w h stride) dst.old }
+    ensures bound { result ≤ 255 * (w * h) }
     ensures replaced { dst.new ≡ packed src.now w h stride }
 {
     let mut total = 0;
@@ -98,17 +99,54 @@ pub fn replace_plane(dst: &mut [u8], src: &[u8], w: usize, h: usize, stride: usi
     total
 }
 
-// A row of zeros, as long as a row of a frame may be.
-static ZEROS: [u8; 4096] = [0; 4096];
+// How many bytes of what lies in one piece are taken as a row: few enough that they are still at hand when they are copied, and enough that
+// what a row costs by itself is small beside them. Runs of 2048 and of 4096 (tried) are slower for wide planes.
+const RUN: usize = 1024;
 
-// dst becomes 0 throughout: each of its rows takes the same zeros. The whole sum of the differences with what it had.
+// dst becomes src, run by run and then what is left. The whole sum of the absolute differences of src and of what dst had.
+fn replace_runs(dst: &mut [u8], src: &[u8]) -> u32
+    requires dst_len { length dst.old ≡ length src.now }
+    requires dst_len_bound { length dst.old ≤ 2 ^ 24 }
+    ensures value { result ≡ sum_abs_diff src.now dst.old }
+    ensures replaced { dst.new ≡ src.now }
+{
+    let runs = src.len() / RUN;
+    let whole = RUN * runs;
+    let total = replace_rows(&mut dst[..whole], src, RUN, runs, RUN);
+    total + replace_row(&mut dst[whole..], &src[whole..])
+}
+
+// dst becomes the rows of src, packed as by `copy_plane`. The whole sum of their differences with what dst had. Rows that lie one after the
+// other are one piece.
+pub fn replace_plane(dst: &mut [u8], src: &[u8], w: usize, h: usize, stride: usize) -> u32
+    requires dst_len { length dst.old ≡ w * h }
+    requires dst_len_bound { w * h ≤ 2 ^ 24 }
+    requires by_index { (y : ℕ) → y < h → y * stride + w ≤ length src.now }
+    ensures value { result ≡ sum_abs_diff (packed src.now w h stride) dst.old }
+    ensures replaced { dst.new ≡ packed src.now w h stride }
+{
+    if stride == w {
+        replace_runs(dst, &src[..w * h])
+    } else {
+        replace_rows(dst, src, w, h, stride)
+    }
+}
+
+// A run of zeros.
+static ZEROS: [u8; RUN] = [0; RUN];
+
+// dst becomes 0 throughout: each of its runs, and what is left, takes the same zeros. The whole sum of the differences with what it had.
 pub fn clear_plane(dst: &mut [u8], w: usize, h: usize) -> u32
     requires dst_len { length dst.old ≡ w * h }
     requires sides { (w ≤ 4096) × (h ≤ 4096) }
     ensures value { result ≡ sum_abs_diff (tabulate (w * h) (λ _. 0)) dst.old }
     ensures cleared { dst.new ≡ tabulate (w * h) (λ _. 0) }
 {
-    replace_plane(dst, &ZEROS, w, h, 0)
+    let runs = w * h / RUN;
+    let whole = RUN * runs;
+    let total = replace_rows(&mut dst[..whole], &ZEROS, RUN, runs, 0);
+    let rest = w * h - whole;
+    total + replace_row(&mut dst[whole..], &ZEROS[..rest])
 }
 
 // A whole sum over a count of pixels, by one division; 0.0 for no pixels.

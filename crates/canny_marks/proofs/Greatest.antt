@@ -61,14 +61,14 @@ spread-is n d p h = go (spread-greatest n).passes ((spread-greatest n).all d p) 
         let g : reach (d + 1) * reach (d + 1) ≤ reach (spread n) * reach (spread n) = mul-le-mul (omega arith) (omega arith) in
         absurd (omega arith)
 
--- by the root r of n, rounded down: 96 × (2d - 1) is at most r, and 96 × (2d + 1) over it
-root_passes : (n r d : ℕ) → r * r ≤ n → d ≡ (r / 96 + 1) / 2 → Passes n d
+-- by the root r of n / 96², rounded down: 2d - 1 is at most r, and 2d + 1 over it
+root_passes : (n r d : ℕ) → r * r ≤ n / 9216 → d ≡ (r + 1) / 2 → Passes n d
 root_passes n r zero a q = inl refl
 root_passes n r (suc d) a q =
-    let m : reach (suc d) * reach (suc d) ≤ r * r = mul-le-mul (omega arith) (omega arith) in
+    let m : reach (suc d) * reach (suc d) ≤ (96 * r) * (96 * r) = mul-le-mul (omega arith) (omega arith) in
     inr (omega arith)
 
-pub spread_root : (n r d : ℕ) → r * r ≤ n → n < (r + 1) * (r + 1) → d ≡ (r / 96 + 1) / 2 → d ≡ spread n
+pub spread_root : (n r d : ℕ) → r * r ≤ n / 9216 → n / 9216 < (r + 1) * (r + 1) → d ≡ (r + 1) / 2 → d ≡ spread n
 spread_root n r d a b q =
-    let m : (r + 1) * (r + 1) ≤ reach (d + 1) * reach (d + 1) = mul-le-mul (omega arith) (omega arith) in
+    let m : (96 * (r + 1)) * (96 * (r + 1)) ≤ reach (d + 1) * reach (d + 1) = mul-le-mul (omega arith) (omega arith) in
     spread-is n d (root_passes n r d a q) (omega arith)

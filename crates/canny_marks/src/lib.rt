@@ -98,8 +98,24 @@ pub fn auto_kernel_size(width: u32, height: u32) -> u32
     ensures { result ≡ auto_kernel_size width height }
 {
     let n = u64::from(width) * u64::from(height);
-    // 96 × (2d - 1) is at most the root, and 96 × (2d + 1) over it
-    let d = (n.isqrt() / 96 + 1) / 2;
+    // d is 0, and k is 4 plus 1.
+    if n < 9216 {
+        return 5;
+    }
+    // n / 96²: its root, rounded down, is 2d - 1 or 2d.
+    let square = n / 9216;
+    // The root is at least `root`, and less than root + gap: at first the powers of two that half the bits of `square` give.
+    // Kept: `isqrt` takes 32 rounds for every frame. These are few for one of few pixels.
+    let mut root = 1 << (square.ilog2() / 2);
+    let mut gap = root;
+    while 1 < gap {
+        let half = gap / 2;
+        if (root + half) * (root + half) <= square {
+            root += half;
+        }
+        gap -= half;
+    }
+    let d = (root + 1) / 2;
     let k = 4 + d as u32;
     if k % 2 == 0 { k + 1 } else { k }
 }

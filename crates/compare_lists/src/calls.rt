@@ -175,7 +175,11 @@ impl<L: Lists<D>, D: Detect> List<L, D> {
             step.sums,
         );
         let stream = self.state.stream();
-        output::put_last(out, stream.last_score, stream.last_components);
+        output::put_last(
+            out,
+            detector::last_score(self.state),
+            detector::last_components(self.state),
+        );
         self.lists.put_state(out, self.state);
         output::put_store(out, stream.width, stream.height, store);
     }

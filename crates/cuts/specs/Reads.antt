@@ -1,5 +1,5 @@
 -- What follows a read.
-use Rattle.std.specs.Prelude.{◌≡◌, Bool, cond, List, ℕ, min, eqb, ltb, length, take, Option, None, Some}
+use Rattle.std.specs.Prelude.{◌≡◌, Bool, false, cond, List, ℕ, min, eqb, ltb, length, take, Option, None, Some, Result, Ok, Err}
 use Rattle.session.specs.Feeding.{State, fed}
 use Rattle.session.specs.Sessions.{last_state}
 
@@ -25,6 +25,7 @@ pub record FedSome (s : State) (chunk : List ℕ) (s' : State) (count : ℕ) : T
   pub got : Option ℕ
   pub after : AfterRead s got chunk s' count
 
--- there is more to read after a read that gave bytes, all whose text was written: a failed write has no count
-abbrev pub goes_on : ℕ → Bool
-goes_on count = ltb 0 count
+-- there is more to read after a read that gave bytes, all whose text was written: a failed write is an error
+abbrev pub goes_on : {E : Type 0} → Result ℕ E → Bool
+goes_on (Ok count) = ltb 0 count
+goes_on (Err e) = false

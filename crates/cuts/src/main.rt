@@ -92,11 +92,14 @@ fn read_some(
     take_read(rt, session, got, chunk, out)
 }
 
-// Whether to read again: until a read gives no bytes.
-fn goes_on(count: usize) -> bool
-    ensures { result ≡ goes_on count }
+// Whether to read again after a read: until one gives no bytes, or a write fails.
+fn goes_on(read: &io::Result<usize>) -> bool
+    ensures { result ≡ goes_on read.now }
 {
-    count > 0
+    match read {
+        Ok(count) => *count > 0,
+        Err(_) => false,
+    }
 }
 
 // Writes the first line, then reads and feeds to the end of the input. Gives after how many reads there is more to read, none where the input
@@ -115,10 +118,10 @@ fn run(
     // Kept: `for _ in reads.by_ref()` of a range and its `start` in place of this count was tried, and the proof of the last `start` did not close.
     let mut reads = 0;
     for _ in 0..MOST_READS {
-        let count = read_some(rt, input, &mut session, chunk, out)?;
+        let read = read_some(rt, input, &mut session, chunk, out);
         reads += 1;
-        if !goes_on(count) {
-            return Ok(None);
+        if !goes_on(&read) {
+            return read.map(|_| None);
         }
     }
     Ok(Some(reads))

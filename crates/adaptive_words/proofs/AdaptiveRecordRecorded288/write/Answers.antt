@@ -1,4 +1,5 @@
 -- `write` of adaptive_words meets its contract.
+use mathlib.Core.Path.{refl}
 use native.Mathlib.Omega.{arith}
 use Rattle.adaptive_words.proofs.Writing.{written}
 use Rattle.adaptive_words.proofs.AdaptiveRecordRecorded288.write.Goals as goal
@@ -9,7 +10,7 @@ returns c =
     (c.options_words.ensures.value, c.options_words.ensures.result_value)
     (c.stream_words.ensures.value, c.stream_words.ensures.result_value)
     (c.window_words.ensures.value, c.window_words.ensures.result_value)
-    (c.stamps_words.ensures.value, c.stamps_words.ensures.result_value)
-    (c.scores_words.ensures.value, c.scores_words.ensures.result_value)
-    c.args.out.now _ _ _ _ _ c.copy_from_slice.ensures.after c.copy_from_slice-2.ensures.after c.copy_from_slice-3.ensures.after c.copy_from_slice-4.ensures.after c.copy_from_slice-5.ensures.after (omega arith) in
+    (c.put_stamps.ensures.after, c.put_stamps.ensures.back)
+    (c.put_scores.ensures.after, c.put_scores.ensures.back)
+    c.args.out.now _ _ _ _ _ c.copy_from_slice.ensures.after c.copy_from_slice-2.ensures.after c.copy_from_slice-3.ensures.after refl refl (omega arith) in
     record { after = both.0; back = both.1 }

@@ -4,7 +4,7 @@ use mathlib.Core.Path.{◌≡◌}
 use lib.ListN.{get_or}
 use Rattle.laws.proofs.InPlace.{MappedRows}
 use Rattle.arch_planes.proofs.Totals.{above}
-use Rattle.arch_planes.proofs.replace_plane.Given as goal
+use Rattle.arch_planes.proofs.replace_rows.Given as goal
 
 abbrev pub invariant-loop-y : goal.invariant-loop-y
 invariant-loop-y l = record {
