@@ -1,3 +1,4 @@
+pub mod Fed
 pub mod Memory
 pub mod Records
 pub mod Wrote

@@ -2,6 +2,7 @@
 ghost use Rattle.std.specs.Prelude.{◌≡◌, length, take};
 ghost use Rattle.replay.specs.Digest.{fed};
 ghost use Rattle.replay.specs.Generator.{after};
+ghost use Rattle.compare_lists.specs.Fed.{FedWritten};
 
 use crate::calls::{self, Lists};
 use detector::Detect;
@@ -9,6 +10,7 @@ use replay::{Digest, Run};
 use std::io;
 
 // The first n bytes of out, or all where there are fewer.
+// Kept: no heap: lent memory, and how much of it is written.
 fn feed_first(d: Digest, out: &[u8], n: usize) -> Digest
     ensures { result ≡ fed d (take n out.now) }
 {
@@ -17,7 +19,8 @@ fn feed_first(d: Digest, out: &[u8], n: usize) -> Digest
 
 // One list: the digest goes on with what the calls wrote down, and the generator by the bytes of the script.
 fn list<D: Detect, L: Lists<D>>(lists: L, run: Run, script: &mut [u8], out: &mut [u8]) -> Run
-    ensures { result.x ≡ after (length script.old) run.x }
+    ensures number { result.x ≡ after (length script.old) run.x }
+    ensures digest { FedWritten run.digest out.old out.new result.digest }
 {
     let x = replay::fill(script, run.x, 0);
     let n = calls::run(lists, script, out);
